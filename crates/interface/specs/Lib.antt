@@ -1,0 +1,4 @@
+pub mod Limits
+pub mod Plants
+pub mod Rows
+pub mod Tariffs

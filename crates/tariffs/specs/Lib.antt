@@ -1,0 +1,3 @@
+pub mod AirFirst
+pub mod Orders
+pub mod Priced

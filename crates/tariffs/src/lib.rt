@@ -1,0 +1,4 @@
+// The two tariffs of the house.
+pub mod air_first;
+pub mod places;
+pub mod priced;
