@@ -1,0 +1,72 @@
+ghost use mathlib.Core.Path.{_≡_};
+ghost use mathlib.Core.List.{map};
+ghost use lib.ListN.{length};
+ghost use Rattle.std.specs.Finite.{nth};
+ghost use Rattle.std.specs.Options.{mapped};
+ghost use Rattle.interface.specs.Tariffs.{Answers};
+ghost use Rattle.lookahead.specs.Gains.{Within, look-ahead, gain};
+ghost use Rattle.lookahead.specs.Steps.{look-ahead-steps, gain-steps};
+use crate::ahead;
+use interface::plant::Plant;
+use interface::tariff::Tariff;
+
+// A value table: amounts of any kind in the caller's memory, one to each state.
+#[derive(Clone, Copy)]
+pub struct ValueTable<'a, A> {
+    amounts: &'a [A],
+}
+
+impl<'a, A: Copy> ValueTable<'a, A> {
+    pub fn new(amounts: &'a [A]) -> ValueTable<'a, A>
+        ensures { λ r. ⌜ now (r .amounts) ≡ now (amounts .entry) ⌝ }
+    {
+        ValueTable { amounts }
+    }
+
+    // The number of values.
+    pub fn len(&self) -> usize
+        ensures { λ r. ⌜ r ≡ length (now (now (self .entry) .amounts)) ⌝ }
+    {
+        self.amounts.len()
+    }
+
+    // The value of a state, absent past the table's end.
+    pub fn value(&self, state: usize) -> Option<A>
+        ensures { λ r. ⌜ r ≡ nth (now (now (self .entry) .amounts)) state ⌝ }
+    {
+        if state < self.amounts.len() {
+            Some(self.amounts[state])
+        } else {
+            None
+        }
+    }
+
+    // The look-ahead of a portfolio in a state. Under a table within reach it is absent exactly when the
+    // portfolio is not feasible; under any table it is what the steps come to.
+    pub fn look_ahead<P: Plant, T: Tariff<Amount = A>>(
+        &self,
+        plant: &P,
+        tariff: &T,
+        state: usize,
+        portfolio: usize,
+    ) -> Option<A>
+        ensures steps { λ r. ⌜ mapped row r ≡ look-ahead-steps (model (now (plant .entry))) (scale (now (tariff .entry))) (map row (now (now (self .entry) .amounts))) state portfolio ⌝ }
+        ensures within { λ r. ⌜ (Within (model (now (plant .entry))) (map row (now (now (self .entry) .amounts))) → Answers row r (model (now (plant .entry)) .feasible state portfolio) (look-ahead (model (now (plant .entry))) (scale (now (tariff .entry))) (map row (now (now (self .entry) .amounts))) state portfolio)) ⌝ }
+    {
+        ahead::look_ahead(plant, tariff, self.amounts, state, portfolio)
+    }
+
+    // The gain of a portfolio in a state, absent as the look-ahead is under a table within reach.
+    pub fn gain<P: Plant, T: Tariff<Amount = A>>(
+        &self,
+        plant: &P,
+        tariff: &T,
+        state: usize,
+        portfolio: usize,
+    ) -> Option<A>
+        ensures steps { λ r. ⌜ mapped row r ≡ gain-steps (model (now (plant .entry))) (scale (now (tariff .entry))) (map row (now (now (self .entry) .amounts))) state portfolio ⌝ }
+        ensures within { λ r. ⌜ (Within (model (now (plant .entry))) (map row (now (now (self .entry) .amounts))) → Answers row r (model (now (plant .entry)) .feasible state portfolio) (gain (model (now (plant .entry))) (scale (now (tariff .entry))) (map row (now (now (self .entry) .amounts))) state portfolio)) ⌝ }
+    {
+        ahead::gain(plant, tariff, self.amounts, state, portfolio)
+    }
+}
