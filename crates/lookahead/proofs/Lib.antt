@@ -1,2 +1,4 @@
 pub mod Bounds
+pub mod Firsts
+pub mod Leasts
 pub mod Optional

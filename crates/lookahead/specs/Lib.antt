@@ -1,2 +1,4 @@
+pub mod Best
+pub mod Choices
 pub mod Gains
 pub mod Steps
