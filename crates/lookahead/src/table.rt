@@ -17,7 +17,7 @@ use interface::tariff::Tariff;
 // A value table: amounts of any kind in the caller's memory, one to each state.
 #[derive(Clone, Copy)]
 pub struct ValueTable<'a, A> {
-    amounts: &'a [A],
+    pub amounts: &'a [A],
 }
 
 impl<'a, A: Copy> ValueTable<'a, A> {

@@ -1,0 +1,4 @@
+pub mod Extremes
+pub mod Faults
+pub mod Refused
+pub mod Soundness

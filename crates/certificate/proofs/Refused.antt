@@ -1,0 +1,55 @@
+-- The refusal, test by test.
+use mathlib.Core.Path.{_≡_, refl, sym, ap, _∙_, subst}
+use mathlib.Core.Bool.{Bool, true, false, cond, _&&_}
+use mathlib.Core.List.{List, map}
+use Prim.Native.Nat.{ℕ}
+use native.Mathlib.Omega.{arith}
+use lib.Dec.{leb, eqb}
+use lib.ListN.{length}
+use Rattle.std.proofs.shelf.Lists.{length-map}
+use Rattle.std.proofs.shelf.Tests.{and-parts, eqb-true, cond-true, cond-false}
+use Rattle.std.specs.Options.{isSome}
+use Rattle.std.specs.declared.option.Option.{Option}
+use Rattle.std.specs.declared.option.Option.the-variants.{Some, None}
+use Rattle.interface.specs.Plants.{Model}
+use Rattle.interface.specs.Rows.{Row, reach}
+use Rattle.interface.specs.Tariffs.{Scale}
+use Rattle.lookahead.specs.Gains.{Within}
+use Rattle.certificate.specs.declared.refusal.Refusal.{Refusal}
+use Rattle.certificate.specs.declared.refusal.Refusal.the-variants.{WrongLength, BeyondReach}
+use Rattle.certificate.specs.Certificates.{most-claim}
+use Rattle.certificate.specs.Refusals.{or-else, first-fault, value-fault, state-fault, level, refusal}
+use Rattle.certificate.proofs.Faults.{level-map, none-of}
+use Rattle.certificate.proofs.Soundness.{near-from}
+
+pub or-first : {A : Type 0} (x y : Option A) → isSome x ≡ true → or-else x y ≡ x
+or-first None y h = let z : _≡_ {A = ℕ} 0 1 = cc in absurd (omega arith)
+or-first (Some a) y h = refl
+
+-- both tables have n entries, of the plant's number of states
+module _ {A : Type 0} (row : A → Row) (m : Model) (xs : List A) (ps : List ℕ) (same : (eqb (length xs) (m .states) && eqb (length ps) (m .states)) ≡ true) where
+  pub values-long : length xs ≡ m .states
+  values-long = eqb-true (length xs) (m .states) (and-parts (eqb (length xs) (m .states)) (eqb (length ps) (m .states)) same .0)
+
+  pub policy-long : length ps ≡ m .states
+  policy-long = eqb-true (length ps) (m .states) (and-parts (eqb (length xs) (m .states)) (eqb (length ps) (m .states)) same .1)
+
+  pub within-from : (t : Scale) → first-fault (value-fault t (map row xs)) (length xs) ≡ None → Within m (map row xs)
+  within-from t h = record {
+    long = length-map xs row ∙ values-long;
+    near = near-from t (map row xs) (subst (λ n. first-fault (value-fault t (map row xs)) n ≡ None) (sym (length-map xs row)) h);
+  }
+
+  module _ (t : Scale) (low high : Row) where
+    pub refused-claim : (leb (reach low) most-claim && leb (reach high) most-claim) ≡ false → refusal m t (map row xs) ps low high ≡ Some (BeyondReach (m .states))
+    refused-claim far =
+        cond-true (level m (map row xs) ps) _ _ (level-map row m xs ps ∙ same)
+        ∙ cond-false (leb (reach low) most-claim && leb (reach high) most-claim) _ _ far
+
+    pub refused-later : (leb (reach low) most-claim && leb (reach high) most-claim) ≡ true
+        → refusal m t (map row xs) ps low high ≡ or-else (first-fault (value-fault t (map row xs)) (length xs)) (first-fault (state-fault m t (map row xs) ps low high) (length ps))
+    refused-later near =
+        cond-true (level m (map row xs) ps) _ _ (level-map row m xs ps ∙ same)
+        ∙ cond-true (leb (reach low) most-claim && leb (reach high) most-claim) _ _ near
+        ∙ ap (λ n. or-else (first-fault (value-fault t (map row xs)) n) (first-fault (state-fault m t (map row xs) ps low high) (m .states))) (sym values-long)
+        ∙ ap (λ n. or-else (first-fault (value-fault t (map row xs)) (length xs)) (first-fault (state-fault m t (map row xs) ps low high) n)) (sym policy-long)

@@ -1,0 +1,4 @@
+pub mod Certificates
+pub mod Findings
+pub mod Recipes
+pub mod Refusals
