@@ -1,3 +1,4 @@
+pub mod Claiming
 pub mod Extremes
 pub mod Faults
 pub mod Refused

@@ -2,7 +2,7 @@
 use mathlib.Core.Path.{_≡_, refl, sym, ap, _∙_, subst}
 use mathlib.Core.Bool.{Bool, true, false, cond, _&&_}
 use mathlib.Core.List.{List, map}
-use Prim.Native.Nat.{ℕ}
+use Prim.Native.Nat.{ℕ, _<_}
 use native.Mathlib.Omega.{arith}
 use lib.Dec.{leb, eqb}
 use lib.ListN.{length}
@@ -16,11 +16,12 @@ use Rattle.interface.specs.Rows.{Row, reach}
 use Rattle.interface.specs.Tariffs.{Scale}
 use Rattle.lookahead.specs.Gains.{Within}
 use Rattle.certificate.specs.declared.refusal.Refusal.{Refusal}
-use Rattle.certificate.specs.declared.refusal.Refusal.the-variants.{WrongLength, BeyondReach}
-use Rattle.certificate.specs.Certificates.{most-claim}
+use Rattle.certificate.specs.declared.refusal.Refusal.the-variants.{WrongLength, BeyondReach, Infeasible}
+use Rattle.certificate.specs.Certificates.{most-claim, named}
+use Rattle.certificate.specs.Recipes.{policy-fault, recipe-refusal}
 use Rattle.certificate.specs.Refusals.{or-else, first-fault, value-fault, state-fault, level, refusal}
-use Rattle.certificate.proofs.Faults.{level-map, none-of}
-use Rattle.certificate.proofs.Soundness.{near-from}
+use Rattle.certificate.proofs.Faults.{level-map, or-none, none-below}
+use Rattle.certificate.proofs.Soundness.{near-from, passed}
 
 pub or-first : {A : Type 0} (x y : Option A) → isSome x ≡ true → or-else x y ≡ x
 or-first None y h = let z : _≡_ {A = ℕ} 0 1 = cc in absurd (omega arith)
@@ -40,6 +41,12 @@ module _ {A : Type 0} (row : A → Row) (m : Model) (xs : List A) (ps : List ℕ
     near = near-from t (map row xs) (subst (λ n. first-fault (value-fault t (map row xs)) n ≡ None) (sym (length-map xs row)) h);
   }
 
+  pub recipe-later : (t : Scale) → recipe-refusal m t (map row xs) ps ≡ or-else (first-fault (value-fault t (map row xs)) (length xs)) (first-fault (policy-fault m ps) (length ps))
+  recipe-later t =
+      cond-true (level m (map row xs) ps) _ _ (level-map row m xs ps ∙ same)
+      ∙ ap (λ n. or-else (first-fault (value-fault t (map row xs)) n) (first-fault (policy-fault m ps) (m .states))) (sym values-long)
+      ∙ ap (λ n. or-else (first-fault (value-fault t (map row xs)) (length xs)) (first-fault (policy-fault m ps) n)) (sym policy-long)
+
   module _ (t : Scale) (low high : Row) where
     pub refused-claim : (leb (reach low) most-claim && leb (reach high) most-claim) ≡ false → refusal m t (map row xs) ps low high ≡ Some (BeyondReach (m .states))
     refused-claim far =
@@ -53,3 +60,24 @@ module _ {A : Type 0} (row : A → Row) (m : Model) (xs : List A) (ps : List ℕ
         ∙ cond-true (leb (reach low) most-claim && leb (reach high) most-claim) _ _ near
         ∙ ap (λ n. or-else (first-fault (value-fault t (map row xs)) n) (first-fault (state-fault m t (map row xs) ps low high) (m .states))) (sym values-long)
         ∙ ap (λ n. or-else (first-fault (value-fault t (map row xs)) (length xs)) (first-fault (state-fault m t (map row xs) ps low high) n)) (sym policy-long)
+
+-- what the recipe's tests have shown when none fails
+pub record Fitting (m : Model) (vs : List Row) (ps : List ℕ) : Type 0 where
+  pub within : Within m vs
+  pub policy : length ps ≡ m .states
+  pub feasible : (s : ℕ) → s < m .states → m .feasible s (named ps s) ≡ true
+
+pub fitting-from : {A : Type 0} (row : A → Row) (m : Model) (t : Scale) (xs : List A) (ps : List ℕ) → recipe-refusal m t (map row xs) ps ≡ None → Fitting m (map row xs) ps
+fitting-from row m t xs ps none =
+    let one = passed (level m (map row xs) ps) _ WrongLength none in
+    let same = sym (level-map row m xs ps) ∙ one .0 in
+    let two = or-none (first-fault (value-fault t (map row xs)) (m .states)) (first-fault (policy-fault m ps) (m .states)) (one .1) in
+    record {
+      within = within-from row m xs ps same t (subst (λ n. first-fault (value-fault t (map row xs)) n ≡ None) (sym (values-long row m xs ps same)) (two .0));
+      policy = policy-long row m xs ps same;
+      feasible = λ s l. by-test (m .feasible s (named ps s)) s (none-below (policy-fault m ps) (m .states) s (two .1) l);
+    }
+  where
+    by-test : (b : Bool) (s : ℕ) → cond b None (Some (Infeasible s)) ≡ None → b ≡ true
+    by-test true s e = refl
+    by-test false s e = let z : _≡_ {A = ℕ} 0 1 = cc in absurd (omega arith)

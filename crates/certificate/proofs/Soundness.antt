@@ -21,7 +21,7 @@ use Rattle.certificate.specs.Refusals.{or-else, first-fault, each, value-fault
 use Rattle.certificate.proofs.Faults.{none-below, none-from, each-at, each-from, or-none}
 
 -- a test whose failure is a refusal has not failed
-passed : {A : Type 0} (b : Bool) (x : Option A) (a : A) → cond b x (Some a) ≡ None → (b ≡ true) × (x ≡ None)
+pub passed : {A : Type 0} (b : Bool) (x : Option A) (a : A) → cond b x (Some a) ≡ None → (b ≡ true) × (x ≡ None)
 passed true x a h = (refl, h)
 passed false x a h = let z : _≡_ {A = ℕ} 0 1 = cc in absurd (omega arith)
 

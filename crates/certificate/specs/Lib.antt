@@ -1,4 +1,5 @@
 pub mod Certificates
+pub mod Claims
 pub mod Findings
 pub mod Recipes
 pub mod Refusals

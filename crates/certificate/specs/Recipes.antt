@@ -9,6 +9,7 @@ use Rattle.std.specs.declared.option.Option.the-variants.{Some, None}
 use Rattle.interface.specs.Plants.{Model}
 use Rattle.interface.specs.Rows.{Row}
 use Rattle.interface.specs.Tariffs.{Scale, AtMost}
+use Rattle.lookahead.specs.Best.{Pick, first-best, cheaper, where-feasible}
 use Rattle.lookahead.specs.Gains.{gain}
 use Rattle.certificate.specs.declared.refusal.Refusal.{Refusal}
 use Rattle.certificate.specs.declared.refusal.Refusal.the-variants.{WrongLength, Infeasible}
@@ -31,6 +32,18 @@ pub record Highest (m : Model) (t : Scale) (vs : List Row) (ps : List ℕ) (u : 
   pub there : u ≡ gain m t vs state (named ps state)
   pub greatest : (s : ℕ) → s < m .states → AtMost t (gain m t vs s (named ps s)) u
   pub first : (s : ℕ) → s < state → t .at-most u (gain m t vs s (named ps s)) ≡ false
+
+-- The first least gain of a state's feasible portfolios.
+abbrev pub row-of : Option Pick → Option Row
+row-of None = None
+row-of (Some p) = Some (p .row)
+
+abbrev pub state-low : Model → Scale → List Row → ℕ → Option Row
+state-low m t vs s = row-of (first-best (cheaper t) (where-feasible m (gain m t vs) s) (m .portfolios))
+
+-- The gain of the policy's portfolio, where that is feasible.
+abbrev pub policy-gain : Model → Scale → List Row → List ℕ → ℕ → Option Row
+policy-gain m t vs ps s = where-feasible m (gain m t vs) s (named ps s)
 
 abbrev pub policy-fault : Model → List ℕ → ℕ → Option Refusal
 policy-fault m ps s = cond (m .feasible s (named ps s)) None (Some (Infeasible s))

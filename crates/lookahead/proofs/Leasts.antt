@@ -51,7 +51,7 @@ module _ (m : Model) (lawful : Lawful m) (t : Scale) (scaled : LawfulScale t) (v
 
 module _ (m : Model) (t : Scale) (scaled : LawfulScale t) (F : ℕ → ℕ → Row) (fits : (s x : ℕ) → m .feasible s x ≡ true → length (F s x) ≡ t .places) where
   -- a row that is there is one of a feasible portfolio
-  rows-fit : (s : ℕ) (x : ℕ) (u : Row) → where-feasible m F s x ≡ Some u → length u ≡ t .places
+  pub rows-fit : (s : ℕ) (x : ℕ) (u : Row) → where-feasible m F s x ≡ Some u → length u ≡ t .places
   rows-fit s x u e = by-test (m .feasible s x) refl e
     where
       by-test : (b : Bool) → m .feasible s x ≡ b → cond b (Some (F s x)) None ≡ Some u → length u ≡ t .places
