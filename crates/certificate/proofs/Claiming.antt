@@ -21,14 +21,14 @@ use Rattle.certificate.specs.Certificates.{named}
 use Rattle.certificate.specs.Recipes.{row-of, state-low, policy-gain, Lowest, Highest}
 
 -- what is there is of a feasible portfolio
-feasible-of : (m : Model) (F : ℕ → ℕ → Row) (s x : ℕ) (u : Row) → where-feasible m F s x ≡ Some u → (m .feasible s x ≡ true) × (u ≡ F s x)
+pub feasible-of : (m : Model) (F : ℕ → ℕ → Row) (s x : ℕ) (u : Row) → where-feasible m F s x ≡ Some u → (m .feasible s x ≡ true) × (u ≡ F s x)
 feasible-of m F s x u h = by-test (m .feasible s x) refl h
   where
     by-test : (b : Bool) → m .feasible s x ≡ b → cond b (Some (F s x)) None ≡ Some u → (m .feasible s x ≡ true) × (u ≡ F s x)
     by-test true f e = (f, cc)
     by-test false f e = let z : _≡_ {A = ℕ} 0 1 = cc in absurd (omega arith)
 
-there-of : (m : Model) (F : ℕ → ℕ → Row) (s x : ℕ) → m .feasible s x ≡ true → where-feasible m F s x ≡ Some (F s x)
+pub there-of : (m : Model) (F : ℕ → ℕ → Row) (s x : ℕ) → m .feasible s x ≡ true → where-feasible m F s x ≡ Some (F s x)
 there-of m F s x h = ap (λ z. cond z (Some (F s x)) None) h
 
 module _ (m : Model) (lawful : Lawful m) (t : Scale) (scaled : LawfulScale t) (vs : List Row) (long : length vs ≡ m .states) (fit : EachFit (t .places) vs) where

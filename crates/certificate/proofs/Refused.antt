@@ -7,7 +7,7 @@ use native.Mathlib.Omega.{arith}
 use lib.Dec.{leb, eqb}
 use lib.ListN.{length}
 use Rattle.std.proofs.shelf.Lists.{length-map}
-use Rattle.std.proofs.shelf.Tests.{and-parts, eqb-true, cond-true, cond-false}
+use Rattle.std.proofs.shelf.Tests.{and-parts, and-from, eqb-true, eq-eqb, cond-true, cond-false}
 use Rattle.std.specs.Options.{isSome}
 use Rattle.std.specs.declared.option.Option.{Option}
 use Rattle.std.specs.declared.option.Option.the-variants.{Some, None}
@@ -20,8 +20,8 @@ use Rattle.certificate.specs.declared.refusal.Refusal.the-variants.{WrongLengt
 use Rattle.certificate.specs.Certificates.{most-claim, named}
 use Rattle.certificate.specs.Recipes.{policy-fault, recipe-refusal}
 use Rattle.certificate.specs.Refusals.{or-else, first-fault, value-fault, state-fault, level, refusal}
-use Rattle.certificate.proofs.Faults.{level-map, or-none, none-below}
-use Rattle.certificate.proofs.Soundness.{near-from, passed}
+use Rattle.certificate.proofs.Faults.{level-map, or-none, none-below, none-from}
+use Rattle.certificate.proofs.Soundness.{near-from, near-to, passed}
 
 pub or-first : {A : Type 0} (x y : Option A) → isSome x ≡ true → or-else x y ≡ x
 or-first None y h = let z : _≡_ {A = ℕ} 0 1 = cc in absurd (omega arith)
@@ -81,3 +81,10 @@ fitting-from row m t xs ps none =
     by-test : (b : Bool) (s : ℕ) → cond b None (Some (Infeasible s)) ≡ None → b ≡ true
     by-test true s e = refl
     by-test false s e = let z : _≡_ {A = ℕ} 0 1 = cc in absurd (omega arith)
+
+pub fitting-to : {A : Type 0} (row : A → Row) (m : Model) (t : Scale) (xs : List A) (ps : List ℕ) → Fitting m (map row xs) ps → recipe-refusal m t (map row xs) ps ≡ None
+fitting-to row m t xs ps ready =
+    let values = subst (λ n. first-fault (value-fault t (map row xs)) n ≡ None) (ready .within .long) (near-to t (map row xs) (ready .within .near)) in
+    let policy = none-from (policy-fault m ps) (m .states) (λ s l. ap (λ z. cond z None (Some (Infeasible s))) (ready .feasible s l)) in
+    cond-true (level m (map row xs) ps) _ _ (and-from (eqb (length (map row xs)) (m .states)) (eqb (length ps) (m .states)) (eq-eqb (length (map row xs)) (m .states) (ready .within .long)) (eq-eqb (length ps) (m .states) (ready .policy)))
+    ∙ ap (λ z. or-else z (first-fault (policy-fault m ps) (m .states))) values ∙ policy

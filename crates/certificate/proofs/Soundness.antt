@@ -25,11 +25,11 @@ pub passed : {A : Type 0} (b : Bool) (x : Option A) (a : A) → cond b x (Some a
 passed true x a h = (refl, h)
 passed false x a h = let z : _≡_ {A = ℕ} 0 1 = cc in absurd (omega arith)
 
-near-from-each : (n : ℕ) (vs : List Row) → ((s : ℕ) → s < length vs → reach (getD vs s (zeros n)) ≤ most-value) → Near vs
+pub near-from-each : (n : ℕ) (vs : List Row) → ((s : ℕ) → s < length vs → reach (getD vs s (zeros n)) ≤ most-value) → Near vs
 near-from-each n [] h = tt
 near-from-each n (v ∷ vs) h = (h zero (omega arith), near-from-each n vs (λ s l. h (suc s) (omega arith)))
 
-near-each : (n : ℕ) (vs : List Row) → Near vs → (s : ℕ) → s < length vs → reach (getD vs s (zeros n)) ≤ most-value
+pub near-each : (n : ℕ) (vs : List Row) → Near vs → (s : ℕ) → s < length vs → reach (getD vs s (zeros n)) ≤ most-value
 near-each n [] h s l = absurd (omega arith)
 near-each n (v ∷ vs) h zero l = h .0
 near-each n (v ∷ vs) h (suc s) l = near-each n vs (h .1) s (omega arith)

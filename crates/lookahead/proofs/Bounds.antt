@@ -56,7 +56,7 @@ reach-times n (x ∷ u) =
     let right = mul-le n (reach u) n (max (natAbs x) (reach u)) same (omega arith) in
     omega (arith, abs-times n x, left, right, reach-times n u)
 
-zeros-reach : (n : ℕ) → reach (zeros n) ≡ 0
+pub zeros-reach : (n : ℕ) → reach (zeros n) ≡ 0
 zeros-reach zero = refl
 zeros-reach (suc n) = omega (arith, zeros-reach n)
 

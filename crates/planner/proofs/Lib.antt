@@ -1,0 +1,3 @@
+pub mod Fills
+pub mod Shares
+pub mod Sweeping
