@@ -1,9 +1,9 @@
 // The air-first tariff: dark seconds in the first place and cents in the second; the first place decides.
 ghost use mathlib.Core.List.{[], _∷_};
 ghost use Rattle.tariffs.specs.AirFirst.{air-first-scale};
-use crate::places;
 use interface::limits::MOST_CENTS;
 use interface::limits::MOST_SECONDS;
+use interface::places;
 use interface::plant::Bill;
 use interface::tariff::Tariff;
 
@@ -56,8 +56,8 @@ pub impl Tariff for AirFirst as AirFirstTariff {
             return None;
         }
         Some(DarkThenCost {
-            dark: places::add(a.dark, b.dark),
-            cost: places::add(a.cost, b.cost),
+            dark: places::add(a.dark, b.dark)?,
+            cost: places::add(a.cost, b.cost)?,
         })
     }
 
@@ -66,8 +66,8 @@ pub impl Tariff for AirFirst as AirFirstTariff {
             return None;
         }
         Some(DarkThenCost {
-            dark: places::subtract(a.dark, b.dark),
-            cost: places::subtract(a.cost, b.cost),
+            dark: places::subtract(a.dark, b.dark)?,
+            cost: places::subtract(a.cost, b.cost)?,
         })
     }
 
@@ -76,8 +76,8 @@ pub impl Tariff for AirFirst as AirFirstTariff {
             return None;
         }
         Some(DarkThenCost {
-            dark: places::multiply(factor, a.dark),
-            cost: places::multiply(factor, a.cost),
+            dark: places::multiply(factor, a.dark)?,
+            cost: places::multiply(factor, a.cost)?,
         })
     }
 

@@ -1,4 +1,3 @@
 // The two tariffs of the house.
 pub mod air_first;
-pub mod places;
 pub mod priced;

@@ -4,9 +4,9 @@ ghost use mathlib.Core.List.{[], _∷_};
 ghost use Prim.Native.Nat.{_≤_, _<_};
 ghost use Rattle.std.specs.Results.{Cases};
 ghost use Rattle.tariffs.specs.Priced.{most-rate, priced-scale};
-use crate::places;
 use interface::limits::MOST_CENTS;
 use interface::limits::MOST_SECONDS;
+use interface::places;
 use interface::plant::Bill;
 use interface::tariff::Tariff;
 
@@ -89,7 +89,7 @@ pub impl Tariff for Priced as PricedTariff {
             return None;
         }
         Some(Cost {
-            thousandths: places::add(a.thousandths, b.thousandths),
+            thousandths: places::add(a.thousandths, b.thousandths)?,
         })
     }
 
@@ -98,7 +98,7 @@ pub impl Tariff for Priced as PricedTariff {
             return None;
         }
         Some(Cost {
-            thousandths: places::subtract(a.thousandths, b.thousandths),
+            thousandths: places::subtract(a.thousandths, b.thousandths)?,
         })
     }
 
@@ -107,7 +107,7 @@ pub impl Tariff for Priced as PricedTariff {
             return None;
         }
         Some(Cost {
-            thousandths: places::multiply(factor, a.thousandths),
+            thousandths: places::multiply(factor, a.thousandths)?,
         })
     }
 

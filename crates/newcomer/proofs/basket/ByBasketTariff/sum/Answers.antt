@@ -1,0 +1,5 @@
+use borrow.Author.Needs.{needs}
+use Rattle.newcomer.proofs.basket.ByBasketTariff.sum.Needs as need
+
+pub returns : need.returns
+returns c = (search needs, search needs)
