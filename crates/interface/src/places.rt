@@ -35,14 +35,22 @@ pub fn multiple_within(factor: u32, reach: u64) -> bool
 pub fn add(a: i64, b: i64) -> Option<i64>
     ensures { λ r. ⌜ Checked r (natAbs a + natAbs b ≤ most-reach) (a +ℤ b) ⌝ }
 {
-    if sum_within(a.unsigned_abs(), b.unsigned_abs()) { Some(a + b) } else { None }
+    if sum_within(a.unsigned_abs(), b.unsigned_abs()) {
+        Some(a + b)
+    } else {
+        None
+    }
 }
 
 // The difference of two places, absent as their sum is.
 pub fn subtract(a: i64, b: i64) -> Option<i64>
     ensures { λ r. ⌜ Checked r (natAbs a + natAbs b ≤ most-reach) (a -ℤ b) ⌝ }
 {
-    if sum_within(a.unsigned_abs(), b.unsigned_abs()) { Some(a - b) } else { None }
+    if sum_within(a.unsigned_abs(), b.unsigned_abs()) {
+        Some(a - b)
+    } else {
+        None
+    }
 }
 
 // A multiple of a place, absent exactly when it would exceed MOST_REACH.

@@ -1,6 +1,5 @@
 ghost use mathlib.Core.Path.{_≡_};
 ghost use mathlib.Core.List.{map};
-ghost use lib.ListN.{length};
 ghost use Rattle.std.specs.Finite.{nth};
 ghost use Rattle.std.specs.Options.{mapped};
 ghost use Rattle.interface.specs.Tariffs.{Answers};
@@ -25,13 +24,6 @@ impl<'a, A: Copy> ValueTable<'a, A> {
         ensures { λ r. ⌜ now (r .amounts) ≡ now (amounts .entry) ⌝ }
     {
         ValueTable { amounts }
-    }
-
-    // The number of values.
-    pub fn len(&self) -> usize
-        ensures { λ r. ⌜ r ≡ length (now (now (self .entry) .amounts)) ⌝ }
-    {
-        self.amounts.len()
     }
 
     // The value of a state, absent past the table's end.

@@ -12,6 +12,7 @@ use interface::tariff::Tariff;
 
 // What a second and a cent are worth in their own places, and what a second costs in fees.
 const WORTH: i64 = 1000;
+
 const FEE: i64 = 7;
 
 #[derive(Clone, Copy, PartialEq, Eq, Debug)]
@@ -54,7 +55,11 @@ pub impl Tariff for ByBasket as ByBasketTariff {
     }
 
     fn zero(&self) -> Basket {
-        Basket { seconds: 0, cents: 0, fees: 0 }
+        Basket {
+            seconds: 0,
+            cents: 0,
+            fees: 0,
+        }
     }
 
     fn price(&self, bill: Bill) -> Option<Basket> {
@@ -106,11 +111,18 @@ pub impl Tariff for ByBasket as ByBasketTariff {
     }
 
     fn share(&self, a: Basket) -> Basket {
-        Basket { seconds: places::share(a.seconds), cents: places::share(a.cents), fees: places::share(a.fees) }
+        Basket {
+            seconds: places::share(a.seconds),
+            cents: places::share(a.cents),
+            fees: places::share(a.fees),
+        }
     }
 
     fn reach(&self, a: Basket) -> u64 {
-        a.seconds.unsigned_abs().max(a.cents.unsigned_abs()).max(a.fees.unsigned_abs())
+        a.seconds
+            .unsigned_abs()
+            .max(a.cents.unsigned_abs())
+            .max(a.fees.unsigned_abs())
     }
 
     fn place(&self, a: Basket, i: usize) -> Option<i64> {
@@ -124,7 +136,10 @@ pub impl Tariff for ByBasket as ByBasketTariff {
 
     fn with_place(&self, a: Basket, i: usize, value: i64) -> Option<Basket> {
         match i {
-            0 => Some(Basket { seconds: value, ..a }),
+            0 => Some(Basket {
+                seconds: value,
+                ..a
+            }),
             1 => Some(Basket { cents: value, ..a }),
             2 => Some(Basket { fees: value, ..a }),
             _ => None,

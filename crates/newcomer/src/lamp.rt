@@ -10,8 +10,11 @@ use interface::plant::Outcome;
 use interface::plant::Plant;
 
 const LIT: usize = 0;
+
 const DARK: usize = 1;
+
 const LEAVE: usize = 0;
+
 const REPLACE: usize = 1;
 
 #[derive(Clone, Copy)]
@@ -57,7 +60,11 @@ pub impl Plant for Lamp as LampPlant {
     }
 
     fn outcome_count(&self, state: usize, portfolio: usize) -> usize {
-        if self.feasible(state, portfolio) { 2 } else { 0 }
+        if self.feasible(state, portfolio) {
+            2
+        } else {
+            0
+        }
     }
 
     fn outcome(&self, state: usize, portfolio: usize, k: usize) -> Option<Outcome> {
@@ -65,8 +72,14 @@ pub impl Plant for Lamp as LampPlant {
             return None;
         }
         match k {
-            0 => Some(Outcome { next: LIT, weight: WHOLE - self.failing }),
-            1 => Some(Outcome { next: DARK, weight: self.failing }),
+            0 => Some(Outcome {
+                next: LIT,
+                weight: WHOLE - self.failing,
+            }),
+            1 => Some(Outcome {
+                next: DARK,
+                weight: self.failing,
+            }),
             _ => None,
         }
     }
