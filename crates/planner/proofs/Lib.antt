@@ -1,3 +1,4 @@
 pub mod Fills
 pub mod Shares
 pub mod Sweeping
+pub mod Unique

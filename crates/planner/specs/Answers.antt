@@ -49,3 +49,8 @@ Answer row m t n b b′ (Ok c) = (n ≤ most-sweeps) × Level m b × Planned row
 Answer row m t n b b′ (Err TooManySweeps) = (most-sweeps < n) × (b′ ≡ b)
 Answer row m t n b b′ (Err WrongLength) = (n ≤ most-sweeps) × (Level m b → ⊥) × (b′ ≡ b)
 Answer row m t n b b′ (Err (BeyondReach s)) = (n ≤ most-sweeps) × Level m b × Halted row m t n s b′
+
+-- The tables after an answer are the only ones: so many sweeps lead to no other values.
+abbrev pub Only : {A : Type 0} → (A → Row) → Model → Scale → ℕ → Tables A → Result (Claims A) Refusal → Type 0
+Only row m t n b′ (Ok c) = (vs : List Row) → Swept m t n vs → map row (b′ .values) ≡ vs
+Only row m t n b′ (Err e) = Unit {0}

@@ -1,6 +1,6 @@
 // The planner.
 ghost use mathlib.Core.List.{map};
-ghost use Rattle.planner.specs.Answers.{Answer};
+ghost use Rattle.planner.specs.Answers.{Answer, Only};
 use crate::refusal::Refusal;
 use crate::sweep;
 use certificate::recipe::Claims;
@@ -11,9 +11,7 @@ use interface::tariff::Tariff;
 // The largest number of sweeps.
 pub const MOST_SWEEPS: u32 = 1000;
 
-// Sweeps the value table so many times from zero rows, chooses the policy by it, and claims by the recipe. The three
-// tables are the caller's, each with an entry for each state.
-pub fn plan<P: Plant, T: Tariff>(
+fn plan_tables<P: Plant, T: Tariff>(
     plant: &P,
     tariff: &T,
     sweeps: u32,
@@ -42,4 +40,20 @@ pub fn plan<P: Plant, T: Tariff>(
         unreachable()
     };
     Ok(claims)
+}
+
+// Sweeps the value table so many times from zero rows, chooses the policy by it, and claims by the recipe. The three
+// tables are the caller's, each with an entry for each state.
+pub fn plan<P: Plant, T: Tariff>(
+    plant: &P,
+    tariff: &T,
+    sweeps: u32,
+    values: &mut [T::Amount],
+    working: &mut [T::Amount],
+    policy: &mut [u16],
+) -> Result<Claims<T::Amount>, Refusal>
+    ensures answer { λ r. ⌜ Answer row (model (now (plant .entry))) (scale (now (tariff .entry))) sweeps (record { values = now (values .entry); working = now (working .entry); policy = now (policy .entry) }) (record { values = now (values .exit); working = now (working .exit); policy = now (policy .exit) }) r ⌝ }
+    ensures only { λ r. ⌜ Only row (model (now (plant .entry))) (scale (now (tariff .entry))) sweeps (record { values = now (values .exit); working = now (working .exit); policy = now (policy .exit) }) r ⌝ }
+{
+    plan_tables(plant, tariff, sweeps, values, working, policy)
 }
