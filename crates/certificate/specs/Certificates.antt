@@ -20,8 +20,8 @@ abbrev pub named : List ℕ → ℕ → ℕ
 named ps s = getD ps s 0
 
 -- A certificate is sound: both tables have an entry for each state, the values and the claims are within reach,
--- and in every state the policy is feasible, low is at most the gain of each feasible portfolio, and the gain of
--- the policy's is at most high.
+-- and wherever one stands: what the policy names may be done, whatever may be done gains no less than low, and what the
+-- policy names gains no more than high.
 pub record Sound (m : Model) (t : Scale) (vs : List Row) (ps : List ℕ) (low high : Row) : Type 0 where
   pub values : Within m vs
   pub policy : length ps ≡ m .states

@@ -36,7 +36,7 @@ pub(crate) fn value_beyond<T: Tariff>(tariff: &T, values: &[T::Amount]) -> Optio
     None
 }
 
-// The gain under a table within reach, absent exactly when the portfolio is not feasible.
+// The gain under a table within reach: there for the feasible portfolios and for no others.
 pub(crate) fn gain_within<P: Plant, T: Tariff>(
     plant: &P,
     tariff: &T,
@@ -68,7 +68,7 @@ fn low_holds_at<P: Plant, T: Tariff>(
     }
 }
 
-// Whether low is at most the gain of every feasible portfolio of a state.
+// Whether no feasible portfolio of a state gains less than low.
 fn low_holds<P: Plant, T: Tariff>(
     plant: &P,
     tariff: &T,

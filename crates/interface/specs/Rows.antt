@@ -26,7 +26,7 @@ abbrev pub times : ℕ → Row → Row
 times n [] = []
 times n (x ∷ u) = (pos n *ℤ x) ∷ times n u
 
--- Each place divided by 10,000, rounded down.
+-- A ten-thousandth of each place, by floor division.
 abbrev pub share : Row → Row
 share [] = []
 share (x ∷ u) = divEuclid x (pos whole) ∷ share u

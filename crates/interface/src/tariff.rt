@@ -9,8 +9,8 @@ ghost use Rattle.interface.specs.Rows.{Row, zeros, plus, minus, times, share, 
 ghost use Rattle.interface.specs.Tariffs.{Scale, LawfulScale, Answers, price, summable, multipliable, billable};
 use crate::plant::Bill;
 
-// A tariff prices bills as amounts of its own kind and orders them. An amount means a row of signed whole
-// numbers, one to each place, in thousandths. Any 64-bit number may stand at a place.
+// A tariff prices bills as amounts of its own kind and orders them. What an amount stands for is a row of integers, one to
+// each place, in thousandths. Any 64-bit number may stand at a place.
 pub trait Tariff {
     // A plain record with no invariant.
     type Amount: Copy;

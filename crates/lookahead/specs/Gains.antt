@@ -17,7 +17,7 @@ most-value = 1000000000000
 abbrev pub value-of : Scale → List Row → ℕ → Row
 value-of t vs s = getD vs s (zeros (t .places))
 
--- The sum of weight × value of the next state.
+-- Every outcome's value, weighed, added up.
 abbrev pub expected : Scale → List Row → List Outcome → Row
 expected t vs [] = zeros (t .places)
 expected t vs (o ∷ os) = plus (times (o .weight) (value-of t vs (o .next))) (expected t vs os)
@@ -26,7 +26,7 @@ expected t vs (o ∷ os) = plus (times (o .weight) (value-of t vs (o .next))) (e
 abbrev pub look-ahead : Model → Scale → List Row → ℕ → ℕ → Row
 look-ahead m t vs s x = plus (times whole (price t (m .bill s x))) (expected t vs (m .outcomes s x))
 
--- The look-ahead − 10,000 × the value of the state itself.
+-- What the look-ahead exceeds the state's own value by, that value taken 10,000 times.
 abbrev pub gain : Model → Scale → List Row → ℕ → ℕ → Row
 gain m t vs s x = minus (look-ahead m t vs s x) (times whole (value-of t vs s))
 

@@ -80,8 +80,8 @@ fn gain_by_steps<P: Plant, T: Tariff>(
     tariff.difference(ahead, own)
 }
 
-// The look-ahead of a portfolio in a state. Under a table within reach it is absent exactly when the portfolio
-// is not feasible.
+// The look-ahead of a portfolio in a state. Under a table within reach it is there for the feasible portfolios and for no
+// others.
 pub(crate) fn look_ahead<P: Plant, T: Tariff>(
     plant: &P,
     tariff: &T,

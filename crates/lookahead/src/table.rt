@@ -37,8 +37,8 @@ impl<'a, A: Copy> ValueTable<'a, A> {
         }
     }
 
-    // The look-ahead of a portfolio in a state. Under a table within reach it is absent exactly when the
-    // portfolio is not feasible; under any table it is what the steps come to.
+    // The look-ahead of a portfolio in a state. Under a table within reach it is there for the
+    // feasible portfolios and for no others; under any table it is what the steps come to.
     pub fn look_ahead<P: Plant, T: Tariff<Amount = A>>(
         &self,
         plant: &P,

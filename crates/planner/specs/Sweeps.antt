@@ -29,7 +29,7 @@ pub record Shared (m : Model) (t : Scale) (vs : List Row) (s : ℕ) (u : Row) : 
   pub least : LeastAhead m t vs s at ahead
   pub is : u ≡ share ahead
 
--- The value that a sweep gives a state: the share of its least look-ahead − the share of state 0's, all read from the table before.
+-- The value that a sweep gives a state: how far the share of its least look-ahead is above that of state 0, both under the old table.
 pub record NewValue (m : Model) (t : Scale) (vs : List Row) (s : ℕ) (w : Row) : Type 0 where
   pub own : Row
   pub base : Row
@@ -60,7 +60,7 @@ pub record Stuck (m : Model) (t : Scale) (vs : List Row) (s : ℕ) : Type 0 wher
   pub far : most-value < reach value
   pub first : (k : ℕ) → k < s → (w : Row) × NewValue m t vs k w × (reach w ≤ most-value)
 
--- The policy names in each state the lowest-numbered portfolio of least look-ahead.
+-- In each state the policy names a portfolio of least look-ahead, of several the one with the lowest number.
 pub record Chooses (m : Model) (t : Scale) (vs : List Row) (ps : List ℕ) : Type 0 where
   pub long : length ps ≡ m .states
   pub each : (s : ℕ) → s < m .states → (u : Row) × LeastAhead m t vs s (named ps s) u

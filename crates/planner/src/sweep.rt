@@ -134,7 +134,7 @@ pub(crate) fn sweep_all<P: Plant, T: Tariff>(
     None
 }
 
-// The policy that names in each state the lowest-numbered portfolio of least look-ahead.
+// Writes the policy: in each state a portfolio of least look-ahead, of several the one with the lowest number.
 pub(crate) fn choose<P: Plant, T: Tariff>(
     plant: &P,
     tariff: &T,

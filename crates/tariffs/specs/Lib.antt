@@ -1,3 +1,4 @@
 pub mod AirFirst
 pub mod Orders
 pub mod Priced
+pub mod Refusals

@@ -4,6 +4,7 @@ ghost use mathlib.Core.List.{[], _∷_};
 ghost use Prim.Native.Nat.{_≤_, _<_};
 ghost use Rattle.std.specs.Results.{Cases};
 ghost use Rattle.tariffs.specs.Priced.{most-rate, priced-scale};
+use crate::refusal::Unpriced;
 use interface::limits::MOST_CENTS;
 use interface::limits::MOST_SECONDS;
 use interface::places;
@@ -26,12 +27,6 @@ pub struct Cost {
 pub struct Priced {
     rate: u32,
     ghost few: { rate ≤ most-rate },
-}
-
-// Why no priced tariff is made.
-#[derive(Clone, Copy, PartialEq, Eq, Debug)]
-pub enum Unpriced {
-    RateOutOfRange,
 }
 
 impl Priced {
