@@ -1,8 +1,8 @@
 // Numbers in base ten: at least one digit, no needless zero in front, at most one minus and none before 0.
 ghost use mathlib.Core.Path.{_≡_};
-ghost use Prim.Native.Nat.{_≤_, _^_};
 ghost use Rattle.std.specs.declared.option.Option.the-variants.{Some};
 ghost use Rattle.lines.specs.Numeral.{needlessZero, pushed, numeral, negated, signedNumeral, ReadsNumber, ReadsSigned};
+ghost use Prim.Native.Nat.{_≤_, _^_};
 
 // The bytes of a number: digits, and a minus in front.
 pub const ZERO_DIGIT: u8 = b'0';
