@@ -1,0 +1,12 @@
+pub mod Sums
+pub mod Radix
+pub mod Numbering
+pub mod RoundTrips
+pub mod Dearest
+pub mod Renewals
+pub mod Feasibility
+pub mod Endings
+pub mod Laws
+pub mod Starting
+pub mod Meaning
+pub mod Instance

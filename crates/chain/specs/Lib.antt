@@ -1,0 +1,9 @@
+pub mod Chains
+pub mod Laws
+pub mod Limits
+pub mod Made
+pub mod Over
+pub mod Parts
+pub mod Portfolios
+pub mod Refusals
+pub mod States

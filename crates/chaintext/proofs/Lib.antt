@@ -1,0 +1,2 @@
+pub mod Hazards
+pub mod Reading

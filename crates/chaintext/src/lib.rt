@@ -1,0 +1,4 @@
+// The reader of a chain's text.
+pub mod read;
+pub mod reader;
+mod steps;
