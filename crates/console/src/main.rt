@@ -1,40 +1,65 @@
-// The console: reads a text from standard input line by line and says what it read, or where it refuses.
+// The console: reads a plant, a tariff and a number of sweeps from standard input, and writes the plan, or one line
+// with the number and the place of a refusal. What is meant for people goes to standard error.
+mod plans;
+
+use chain::plant::ChainPlant;
+use chaintext::read::read_chain;
 use lines::reading::Line;
 use lines::reading::Lines;
+use pair::plant::PairPlant;
+use pairtext::text::read_pair;
+use plans::Refused;
+use reading::rules::ReadRefusal;
+use reading::words::is_word;
 use std::error::AnyError;
 use std::io::Read;
+use std::io::Write;
 
-// Says of each line its place, its key and its value; the first fault ends it.
-fn tell(rt: &LibcRuntime, text: &[u8]) -> Result<(), AnyError> {
+fn refused(refusal: ReadRefusal) -> Refused {
+    Refused {
+        number: refusal.number(),
+        place: refusal.place(),
+    }
+}
+
+// Whether the text begins as that of a chain.
+fn is_chain(text: &[u8]) -> bool {
+    match Lines::new(text).next_line().line {
+        Line::Pair(key, value) => is_word(key, b"kind") && is_word(value, b"chain"),
+        Line::Fault(_) => false,
+    }
+}
+
+// The plan of the text, or why there is none.
+fn answer(rt: &LibcRuntime, text: &[u8], out: &mut Vec<u8>) -> Result<Option<Refused>, AnyError> {
     let mut lines = Lines::new(text);
-    for _ in 0..text.len() {
-        if lines.at_end() {
-            break;
+    if is_chain(text) {
+        match read_chain(&mut lines) {
+            Ok(plant) => plans::with_plant(rt, &plant, &mut lines, out),
+            Err(refusal) => Ok(Some(refused(refusal))),
         }
-        let read = lines.next_line();
-        let place = read.place;
-        match read.line {
-            Line::Pair(key, value) => {
-                let key_length = key.len();
-                let value_length = value.len();
-                println!(
-                    rt,
-                    "line {place}: a key of {key_length} bytes, a value of {value_length}"
-                )?;
-            }
-            Line::Fault(number) => {
-                println!(rt, "refused={number},{place}")?;
-                return Ok(());
-            }
+    } else {
+        match read_pair(&mut lines) {
+            Ok(plant) => plans::with_plant(rt, &plant, &mut lines, out),
+            Err(refusal) => Ok(Some(refused(refusal))),
         }
     }
-    Ok(())
 }
 
 fn run(rt: &LibcRuntime) -> Result<(), AnyError> {
     let mut text = Vec::new(rt.alloc());
     rt.stdin().read_to_end(&mut text)?;
-    tell(rt, text.as_slice())
+    let mut out = Vec::new(rt.alloc());
+    match answer(rt, text.as_slice(), &mut out)? {
+        None => rt.stdout().write_all(out.as_slice())?,
+        Some(refusal) => {
+            let number = refusal.number;
+            let place = refusal.place;
+            eprintln!(rt, "the request is refused by rule {number} at {place}")?;
+            println!(rt, "refused={number},{place}")?;
+        }
+    }
+    Ok(())
 }
 
 fn main(rt: LibcRuntime) -> Result<(), AnyError> {

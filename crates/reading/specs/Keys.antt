@@ -1,9 +1,11 @@
 -- The keys of lines and their names.
+use mathlib.Core.Path.{_≡_}
 use mathlib.Core.Bool.{cond}
 use mathlib.Core.List.{List, [], _∷_}
 use Prim.Native.Nat.{ℕ}
 use lib.Chars.{codes}
 use Rattle.std.specs.shelf.Text.{sameBytes}
+use Rattle.lines.specs.Exactly.{Iff}
 use Rattle.reading.specs.declared.keys.Key.{Key}
 use Rattle.reading.specs.declared.keys.Key.the-variants.{Kind, Parts, Threshold, Setup, Alarm, Part, Life, Hazard, Surplus, Dark, Arc, Inspect, Unit, Grades, Row, Planned, Forced, End, Tariff, Sweeps, Other}
 
@@ -43,3 +45,7 @@ first-named name (k ∷ ks) = cond (sameBytes name (name-of k)) k (first-named n
 -- the key with this name
 abbrev pub key-of : List ℕ → Key
 key-of name = first-named name named-keys
+
+-- a key is read exactly from its name
+abbrev pub ReadsKey : List ℕ → Key → Type 0
+ReadsKey name r = (k : Key) → (k ≡ Other → ⊥) → Iff (r ≡ k) (name ≡ name-of k)

@@ -1,6 +1,6 @@
 // The keys of the lines.
 ghost use mathlib.Core.Path.{_≡_};
-ghost use Rattle.reading.specs.Keys.{name-of, key-of};
+ghost use Rattle.reading.specs.Keys.{name-of, key-of, ReadsKey};
 use crate::words::is_word;
 
 #[derive(Clone, Copy)]
@@ -86,7 +86,8 @@ impl Key {
 
 // The key with this name.
 pub fn key_of(name: &[u8]) -> Key
-    ensures { λ r. ⌜ r ≡ key-of (now (name .entry)) ⌝ }
+    ensures value { λ r. ⌜ r ≡ key-of (now (name .entry)) ⌝ }
+    ensures law { λ r. ⌜ ReadsKey (now (name .entry)) r ⌝ }
 {
     for key in NAMED_KEYS {
         if is_word(name, key.name()) {

@@ -1,6 +1,7 @@
 // Why a text is refused, and where.
 ghost use mathlib.Core.Path.{_≡_};
-ghost use Rattle.reading.specs.Rules.{number-of, place-of};
+ghost use Rattle.reading.specs.Rules.{number-of, place-of, fault-rule};
+use lines::reading::BAD_LINE;
 
 // The rule that a line breaks.
 #[derive(Clone, Copy, PartialEq, Eq, Debug)]
@@ -53,5 +54,16 @@ impl ReadRefusal {
         ensures { λ r. ⌜ r ≡ place-of self ⌝ }
     {
         self.line
+    }
+}
+
+// The rule that is broken where no line could be read: a line's fault, or else that the text ends early.
+pub fn fault_rule(fault: u8) -> Rule
+    ensures { λ r. ⌜ r ≡ fault-rule fault ⌝ }
+{
+    if fault == BAD_LINE {
+        Rule::BadLine
+    } else {
+        Rule::Unexpected
     }
 }

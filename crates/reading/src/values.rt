@@ -3,13 +3,14 @@ ghost use mathlib.Core.Path.{_≡_};
 ghost use lib.ListN.{length};
 ghost use Rattle.std.specs.Options.{isSome, valueOr};
 ghost use Rattle.lines.specs.Fields.{further};
-ghost use Rattle.reading.specs.Values.{number-between, numbers-of, list-of};
+ghost use Rattle.reading.specs.Values.{number-between, numbers-of, list-of, ReadsBetween, ReadsList};
 use lines::cutting::Fields;
 use lines::numbers::number;
 
 // The number that `value` writes, absent where it writes none, one below `least` or one above `most`.
 pub fn number_between(value: &[u8], least: u32, most: u32) -> Option<u32>
-    ensures { λ r. ⌜ r ≡ number-between (now (value .entry)) least most ⌝ }
+    ensures value { λ r. ⌜ r ≡ number-between (now (value .entry)) least most ⌝ }
+    ensures law { λ r. ⌜ ReadsBetween (now (value .entry)) least most r ⌝ }
 {
     let n = number(value, u64::from(most))? as u32;
     if n < least {
@@ -46,6 +47,7 @@ fn take_numbers(mut fields: Fields, most: u32, out: &mut [u32]) -> bool
 pub fn read_list(value: &[u8], most: u32, out: &mut [u32]) -> bool
     ensures test { λ r. ⌜ r ≡ isSome (list-of (now (value .entry)) most (length (now (out .entry)))) ⌝ }
     ensures after { λ _. ⌜ now (out .exit) ≡ valueOr (list-of (now (value .entry)) most (length (now (out .entry)))) (now (out .entry)) ⌝ }
+    ensures law { λ _. ⌜ ReadsList (now (value .entry)) most (length (now (out .entry))) (list-of (now (value .entry)) most (length (now (out .entry)))) ⌝ }
 {
     take_numbers(Fields::new(value), most, out)
 }

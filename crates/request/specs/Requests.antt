@@ -16,6 +16,7 @@ use Rattle.lines.specs.Numeral.{numeral}
 use Rattle.reading.specs.declared.rules.ReadRefusal.{ReadRefusal}
 use Rattle.reading.specs.declared.rules.Rule.{Rule}
 use Rattle.reading.specs.declared.rules.Rule.the-variants.{BadLine, Unexpected, OutOfRange}
+use Rattle.request.specs.declared.sweeps.SweepsLine.{SweepsLine}
 use Rattle.request.specs.declared.tariff.TariffChoice.{TariffChoice}
 use Rattle.request.specs.declared.tariff.TariffChoice.the-variants.{Priced, AirFirst}
 
@@ -77,8 +78,13 @@ at-line n (Err e) = Err (record { rule = e; line = n })
 abbrev pub read-tariff : List ℕ → ℕ → Result TariffChoice ReadRefusal
 read-tariff text place = at-line (place + 1) (after (value-due (codes "tariff") (lineAt text)) tariff-of)
 
-abbrev pub read-sweeps : List ℕ → ℕ → Result ℕ ReadRefusal
-read-sweeps text place = at-line (place + 1) (after (value-due (codes "sweeps") (lineAt text)) sweeps-of)
+-- with the line that names it
+abbrev pub on-line : ℕ → Result ℕ ReadRefusal → Result SweepsLine ReadRefusal
+on-line n (Ok s) = Ok (record { count = s; line = n })
+on-line n (Err e) = Err e
+
+abbrev pub read-sweeps : List ℕ → ℕ → Result SweepsLine ReadRefusal
+read-sweeps text place = on-line (place + 1) (at-line (place + 1) (after (value-due (codes "sweeps") (lineAt text)) sweeps-of))
 
 -- a text that goes on where it should end
 abbrev pub goes-on : Said → Rule

@@ -12,6 +12,13 @@ use reading::rules::Rule;
 // The largest number of sweeps.
 pub const MOST_SWEEPS: u64 = 1000;
 
+// The number of sweeps, and the line that names it.
+#[derive(Clone, Copy, PartialEq, Eq, Debug)]
+pub struct SweepsLine {
+    pub count: u32,
+    pub line: usize,
+}
+
 fn sweeps_of(value: &[u8]) -> Result<u32, Rule>
     ensures { λ r. ⌜ r ≡ sweeps-of (now (value .entry)) ⌝ }
 {
@@ -22,7 +29,7 @@ fn sweeps_of(value: &[u8]) -> Result<u32, Rule>
 }
 
 // Reads the sweeps line.
-pub fn read_sweeps(lines: &mut Lines) -> Result<u32, ReadRefusal>
+pub fn read_sweeps(lines: &mut Lines) -> Result<SweepsLine, ReadRefusal>
     ensures value { λ r. ⌜ r ≡ read-sweeps (now (now (lines .entry) .rest)) (now (lines .entry) .place) ⌝ }
     ensures rest { λ _. ⌜ now (now (lines .exit) .rest) ≡ restAt (now (now (lines .entry) .rest)) ⌝ }
     ensures count { λ _. ⌜ now (lines .exit) .place ≡ now (lines .entry) .place + taken (lineAt (now (now (lines .entry) .rest))) ⌝ }
@@ -34,7 +41,7 @@ pub fn read_sweeps(lines: &mut Lines) -> Result<u32, ReadRefusal>
         Err(rule) => return Err(ReadRefusal { rule, line }),
     };
     match sweeps_of(value) {
-        Ok(sweeps) => Ok(sweeps),
+        Ok(count) => Ok(SweepsLine { count, line }),
         Err(rule) => Err(ReadRefusal { rule, line }),
     }
 }

@@ -12,11 +12,11 @@ returns-then-is-empty t c =
 pub returns-then-not-take-numbers : need.returns-then-not-take-numbers
 returns-then-not-take-numbers t c =
     let a = c .if-not-take-numbers .ensures tt in
-    let stop = numbers-stop (further (c .args .fields .rest)) _ _ (c .args .most) _ (c .args .out .now) _ (eqb-false _ 0 (sym (c .if-is-empty .ensures tt))) (c .in-Some .ensures tt .value) (c .in-Some-number-between .ensures tt) (a .test, a .after) in
+    let stop = numbers-stop (further (c .args .fields .rest)) _ _ (c .args .most) _ (c .args .out .now) _ (eqb-false _ 0 (sym (c .if-is-empty .ensures tt))) (c .in-Some .ensures tt .value) (c .in-Some-number-between .ensures tt .value) (a .test, a .after) in
     record { test = stop .0; after = stop .1 }
 
 pub returns : need.returns
 returns t c =
     let a = c .if-not-take-numbers .ensures tt in
-    let done = numbers-done (further (c .args .fields .rest)) _ _ (c .args .most) _ (c .args .out .now) _ (eqb-false _ 0 (sym (c .if-is-empty .ensures tt))) (c .in-Some .ensures tt .value) (c .in-Some-number-between .ensures tt) (a .test, a .after) in
+    let done = numbers-done (further (c .args .fields .rest)) _ _ (c .args .most) _ (c .args .out .now) _ (eqb-false _ 0 (sym (c .if-is-empty .ensures tt))) (c .in-Some .ensures tt .value) (c .in-Some-number-between .ensures tt .value) (a .test, a .after) in
     record { test = done .0; after = done .1 }

@@ -1,0 +1,5 @@
+pub mod Readers
+pub mod Rows
+pub mod Steps
+pub mod Sound
+pub mod Texts

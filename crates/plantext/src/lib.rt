@@ -1,0 +1,4 @@
+// Plans as text: a plan's lines are written one by one, and a whole plan is read.
+pub mod refusal;
+pub mod stage;
+pub mod writing;
