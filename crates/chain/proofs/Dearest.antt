@@ -6,7 +6,7 @@ use Rattle.workorder.specs.declared.Arc.{Arc}
 use lib.ListN.{length, take, getD}
 use mathlib.Core.List.{List, [], _∷_, _++_, List·Memᴰ as In, List·Memᴰ·head, List·Memᴰ·tail, List·Memᴰ·not-nil, List·Memᴰ·append-cases, List·Memᴰ·eq-of-singleton}
 use mathlib.Core.Logic.{inl, inr}
-use mathlib.Core.Path.{_≡_, refl, ap}
+use mathlib.Core.Path.{refl, ap}
 use native.Mathlib.Omega.{arith}
 
 pub none-dearer : (m : ℕ) → NoneDearer m []

@@ -13,7 +13,7 @@ use Rattle.interface.specs.Plants.{Inside, outcomes-of, weights}
 use Rattle.interface.specs.declared.plant.Outcome.{Outcome}
 use Rattle.std.proofs.shelf.Counted.{getD-map-counting, length-map-counting, map-counting-more}
 use Rattle.std.proofs.shelf.Maps.{nth-getD, nth-past}
-use Rattle.std.proofs.shelf.Tests.{cases-eq, cases-lt, cond-false, cond-true, eq-eqb, le-ltb, lt-ltb, ne-eqb}
+use Rattle.std.proofs.shelf.Tests.{cases-eq, cases-lt, cond-false, eq-eqb, le-ltb, lt-ltb, ne-eqb}
 use Rattle.std.specs.Finite.{nth}
 use Rattle.std.specs.Iters.{counting}
 use Rattle.std.specs.declared.option.Option.the-variants.{None, Some}

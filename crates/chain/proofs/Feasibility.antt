@@ -1,18 +1,17 @@
 -- What the test of feasibility says.
-use Prim.Native.Nat.{ℕ, _+_, _-_, _^_, _≤_, _<_}
+use Prim.Native.Nat.{ℕ, _+_, _-_, _≤_, _<_}
 use Rattle.chain.proofs.Renewals.{everything-holds, everything-renews, failure-decides, worn-decides}
 use Rattle.chain.proofs.Sums.{over-alike}
 use Rattle.chain.specs.Chains.{Feasible, HasOrder, Renewable, RenewableBy, Unrenewable, chain-feasible, hazard-sum, hazards-at, least-order, survives}
-use Rattle.chain.specs.Over.{entry, over-parts}
+use Rattle.chain.specs.Over.{entry}
 use Rattle.chain.specs.Parts.{arcs-of, hazard}
-use Rattle.chain.specs.Portfolios.{all-portfolios, everything, failure-renewed, start-age, worn-renewed}
+use Rattle.chain.specs.Portfolios.{all-portfolios, everything, failure-renewed, worn-renewed}
 use Rattle.chain.specs.States.{age-in, all-states, failed-in}
 use Rattle.chain.specs.declared.numbers.ChainNumbers.{ChainNumbers}
 use Rattle.interface.specs.Limits.{whole}
 use Rattle.std.proofs.shelf.Bits.{mod-below, pow-pos}
 use Rattle.std.proofs.shelf.Lists.{getD-replicate}
-use Rattle.std.proofs.shelf.Tests.{and-from, and-parts, cases-bool, cond-true, le-leb, leb-true, lt-ltb, ltb-true}
-use Rattle.std.proofs.shelf.Ways.{decides-and, decides-like, decides-ltb, not-from-decides}
+use Rattle.std.proofs.shelf.Tests.{and-from, and-parts, cond-true, le-leb, leb-true, lt-ltb, ltb-true}
 use Rattle.std.specs.Options.{isSome}
 use Rattle.std.specs.Orderings.{Decides, When}
 use Rattle.std.specs.declared.option.Option.the-variants.{None, Some}
@@ -24,7 +23,7 @@ use lib.Pow.{pow-mono}
 use mathlib.Core.Bool.{Bool, true, false, _&&_}
 use mathlib.Core.HLevel.{⊥-prop}
 use mathlib.Core.List.{List}
-use mathlib.Core.Logic.{inl, inr, ∥∥₁-elim, ∥∥₁-map}
+use mathlib.Core.Logic.{∥∥₁-elim, ∥∥₁-map}
 use mathlib.Core.Path.{_≡_, refl, sym, ap, _∙_}
 use native.Mathlib.Omega.{arith}
 

@@ -4,21 +4,20 @@ use Rattle.chain.proofs.Renewals.{everything-holds}
 use Rattle.chain.specs.Chains.{Renewable}
 use Rattle.chain.specs.Laws.{Some-chain}
 use Rattle.chain.specs.Limits.{most-charge}
-use Rattle.chain.specs.Parts.{LawfulNumbers, LawfulPart, arcs-of, blank, part-of}
+use Rattle.chain.specs.Parts.{LawfulPart, blank, part-of}
 use Rattle.chain.specs.States.{failed-in}
 use Rattle.chain.specs.declared.numbers.ChainNumbers.{ChainNumbers}
 use Rattle.chain.specs.declared.numbers.Part.{Part}
 use Rattle.std.proofs.shelf.Bits.{mod-below}
-use Rattle.std.proofs.shelf.Elements.{all-getD}
 use Rattle.std.proofs.shelf.Tests.{cases-lt}
 use Rattle.workorder.proofs.Worked.{figures}
 use Rattle.workorder.specs.Figures.{arc, row}
 use Rattle.workorder.specs.Orders.{NoneDearer}
 use lib.Dec.{lit≤}
 use lib.ListN.{getD, replicate}
-use mathlib.Core.List.{[], _∷_, _++_, List·Memᴰ as In, List·Memᴰ·not-nil, List·Memᴰ·cases-cons}
+use mathlib.Core.List.{_∷_, _++_, List·Memᴰ·not-nil, List·Memᴰ·cases-cons}
 use mathlib.Core.Logic.{inl, inr, ∥∥₁-map}
-use mathlib.Core.Path.{_≡_, refl, sym, ap, subst}
+use mathlib.Core.Path.{_≡_, refl, subst}
 use native.Mathlib.Omega.{arith}
 
 abbrev steady : ℕ → Part

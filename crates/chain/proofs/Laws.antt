@@ -1,17 +1,17 @@
 -- A chain keeps the laws of a plant.
-use Prim.Native.Nat.{ℕ, _+_, _*_, _^_, _≤_, _<_}
+use Prim.Native.Nat.{ℕ, _+_, _*_, _≤_, _<_}
 use Rattle.chain.proofs.Feasibility.{feasible-decides, few-portfolios}
 use Rattle.chain.proofs.Endings.{outcomes-inside, weights-whole}
 use Rattle.chain.proofs.Starting.{starts-below}
 use Rattle.chain.proofs.Sums.{product-positive}
-use Rattle.chain.specs.Chains.{Feasible, Renewable, RenewableBy, chain-bill, chain-feasible, chain-model, chain-outcomes, dark-seconds, failure-charge, hazard-sum, least-order, outcome-after, renewal-cents}
+use Rattle.chain.specs.Chains.{Feasible, Renewable, RenewableBy, chain-bill, chain-feasible, chain-model, chain-outcomes, dark-seconds, failure-charge, least-order, outcome-after}
 use Rattle.chain.specs.Limits.{most-charge, most-dark}
 use Rattle.chain.specs.Over.{product}
-use Rattle.chain.specs.Parts.{ChargesInRange, HazardsInRange, LawfulNumbers, LawfulTerms, LivesInRange, arcs-of, life, part-of}
-use Rattle.chain.specs.Portfolios.{all-portfolios, everything, start-age}
+use Rattle.chain.specs.Parts.{ChargesInRange, HazardsInRange, LawfulNumbers, LawfulTerms, LivesInRange, arcs-of, life}
+use Rattle.chain.specs.Portfolios.{everything, start-age}
 use Rattle.chain.specs.States.{all-states, failed-in}
 use Rattle.chain.specs.declared.numbers.ChainNumbers.{ChainNumbers}
-use Rattle.interface.specs.Limits.{most-states, whole}
+use Rattle.interface.specs.Limits.{most-cents, most-states}
 use Rattle.interface.specs.Plants.{Lawful, LawfulBill, LawfulOutcomes}
 use Rattle.std.proofs.shelf.Bits.{mod-below, mul-le, pow-pos}
 use Rattle.std.proofs.shelf.Counted.{length-map-counting}
@@ -22,11 +22,10 @@ use Rattle.std.specs.declared.option.Option.{Option}
 use Rattle.workorder.proofs.WorkOrders.{table-bounded}
 use Rattle.workorder.specs.Orders.{AtMost, LeastTable, NoneDearer, max-parts, portfolios}
 use lib.Dec.{eqb}
-use lib.ListN.{getD}
 use mathlib.Core.Bool.{Bool, true, false, cond}
 use mathlib.Core.List.{List}
 use mathlib.Core.Logic.{inl, inr}
-use mathlib.Core.Path.{_≡_, refl, sym, ap, _∙_}
+use mathlib.Core.Path.{_≡_}
 use native.Mathlib.Omega.{arith}
 
 pub lives-in-range : (n : ChainNumbers) → LawfulNumbers n → LivesInRange n
@@ -72,7 +71,7 @@ module _ (n : ChainNumbers) (table : List (Option ℕ)) (l : LawfulNumbers n) (r
       let inside : x < portfolios = omega (arith, h .portfolio, few-portfolios n (l .terms .0 .1)) in
       record {
         dark = dark-few n f l (failed-few n s);
-        paid = one-of (eqb x 0) 0 _ 10000000 (omega arith) (omega (arith, l .terms .2 .0, order-few n table x (l .arcs) right inside, charge-few n f l (failed-few n s)));
+        paid = one-of (eqb x 0) 0 _ most-cents (omega arith) (omega (arith, l .terms .2 .0, order-few n table x (l .arcs) right inside, charge-few n f l (failed-few n s)));
       }
 
   lawful-outcomes : (s x : ℕ) → Feasible n s x → LawfulOutcomes (all-states n) (chain-outcomes n s x)

@@ -7,7 +7,7 @@ use Rattle.chain.proofs.Starting.{starts-below}
 use Rattle.chain.specs.Chains.{Feasible, HasOrder, chain-bill, chain-feasible, failure-charge, hazard-sum, least-order, renewal-cents}
 use Rattle.chain.specs.Laws.{ChainLaws, Figures, Lone-part, With, next-state}
 use Rattle.chain.specs.Over.{over-parts, product}
-use Rattle.chain.specs.Parts.{LawfulNumbers, arcs-of, hazard, life, part-of}
+use Rattle.chain.specs.Parts.{LawfulNumbers, arcs-of, hazard, life}
 use Rattle.chain.specs.Portfolios.{start-age}
 use Rattle.chain.specs.States.{age-in, all-states, failed-in}
 use Rattle.chain.specs.declared.numbers.ChainNumbers.{ChainNumbers}

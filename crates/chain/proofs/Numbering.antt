@@ -1,7 +1,7 @@
 -- The numbers of states.
-use Prim.Native.Nat.{ℕ, zero, suc, _+_, _-_, _*_, _/_, _%_, _^_, _≤_, _<_}
-use Rattle.chain.proofs.Radix.{digit, number, number-below, number-step, digit-of-number, number-of-digits}
-use Rattle.chain.proofs.Sums.{over-alike, product-at-most, product-more, product-positive}
+use Prim.Native.Nat.{ℕ, _+_, _-_, _*_, _/_, _%_, _^_, _≤_, _<_}
+use Rattle.chain.proofs.Radix.{digit, number, number-below, number-step}
+use Rattle.chain.proofs.Sums.{product-at-most, product-more}
 use Rattle.std.proofs.shelf.Bits.{mul-le, mul-add-lt}
 use Rattle.std.proofs.shelf.Counted.{fill-by-all, getD-map-counting}
 use Rattle.std.proofs.shelf.Tests.{cases-lt, cond-true, le-ltb, lt-ltb}
@@ -12,11 +12,11 @@ use mathlib.Core.Bool.{cond}
 use mathlib.Core.List.{List}
 use mathlib.Core.Logic.{inl, inr}
 use Rattle.chain.specs.Limits.{most-life}
-use Rattle.chain.specs.Over.{Entries, over-parts, product, entry}
+use Rattle.chain.specs.Over.{Entries, product, entry}
 use Rattle.chain.specs.Parts.{LivesInRange, LawfulTerms, life}
-use Rattle.chain.specs.States.{age-in, all-states, failed-in, state-with, table-of}
+use Rattle.chain.specs.States.{age-in, all-states, table-of}
 use Rattle.chain.specs.declared.numbers.ChainNumbers.{ChainNumbers}
-use mathlib.Core.Path.{_≡_, refl, sym, ap, _∙_}
+use mathlib.Core.Path.{_≡_, sym, ap, _∙_}
 use native.Mathlib.Nat.{div-div-eq-div-mul, pow-le-pow-right}
 use native.Mathlib.Omega.{arith}
 
@@ -34,10 +34,10 @@ pub lives-more : (n : ChainNumbers) (k a b : ℕ) → a ≡ product (life n) k �
 lives-more n k a b p q = let more = product-more (life n) k in cc
 
 -- states are few enough to count
-pub states-fit : (n : ChainNumbers) → LawfulTerms n → LivesInRange n → all-states n ≤ 448000000
+pub states-fit : (n : ChainNumbers) → LawfulTerms n → LivesInRange n → all-states n ≤ (max-parts + 1) * most-life ^ max-parts
 states-fit n terms lives =
     let all = lives-few n (n .count) terms lives (omega arith) in
-    omega (arith, mul-le (n .count + 1) (product (life n) (n .count)) 7 (most-life ^ max-parts) (omega (arith, terms .0 .1)) all)
+    omega (arith, mul-le (n .count + 1) (product (life n) (n .count)) (max-parts + 1) (most-life ^ max-parts) (omega (arith, terms .0 .1)) all)
 
 -- each part's digit is below its life
 abbrev pub Below-lives : ChainNumbers → (ℕ → ℕ) → Type 0

@@ -1,12 +1,12 @@
 -- Numbers by digits, where each place has a base of its own: the digit of place i counts the product of the bases before it.
 use Prim.Native.Nat.{ℕ, zero, suc, _+_, _-_, _*_, _/_, _%_, _≤_, _<_}
-use Rattle.chain.proofs.Sums.{over-alike, product-positive}
+use Rattle.chain.proofs.Sums.{product-positive}
 use Rattle.chain.specs.Over.{over-parts, product}
-use Rattle.std.proofs.shelf.Bits.{mul-add-lt, div-mul-add, mod-mul-add, div-add-mod', mod-below, div-below}
+use Rattle.std.proofs.shelf.Bits.{mul-add-lt, div-mul-add, mod-mul-add, div-add-mod', mod-below}
 use Rattle.std.proofs.shelf.Tests.{cases-lt}
 use mathlib.Core.Logic.{inl, inr}
-use mathlib.Core.Path.{_≡_, refl, sym, ap, subst, _∙_}
-use native.Mathlib.Nat.{div-div-eq-div-mul, mul-comm, mul-assoc, add-mul, add-mul-div-left, add-mul-mod-self-left, mod-eq-of-lt, div-eq-of-lt}
+use mathlib.Core.Path.{_≡_, sym, ap, _∙_}
+use native.Mathlib.Nat.{mul-comm, mul-assoc, add-mul, add-mul-div-left, add-mul-mod-self-left, mod-eq-of-lt}
 use native.Mathlib.Numerals.{add-one}
 use native.Mathlib.Omega.{arith}
 

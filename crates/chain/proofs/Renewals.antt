@@ -1,5 +1,5 @@
 -- Which parts a portfolio renews, and at what age they start the window.
-use Prim.Native.Nat.{ℕ, zero, suc, _+_, _-_, _*_, _/_, _%_, _^_, _≤_, _<_}
+use Prim.Native.Nat.{ℕ, zero, suc, _-_, _*_, _/_, _%_, _^_, _≤_, _<_}
 use Rattle.chain.proofs.Sums.{every-decides}
 use Rattle.chain.specs.Parts.{life}
 use Rattle.chain.specs.Portfolios.{Failure-renewed, Worn-renewed, attended, everything, failure-renewed, renews, start-age, worn-renewed}
@@ -10,12 +10,11 @@ use Rattle.std.proofs.shelf.Tests.{cases-eq, eq-eqb, eqb-false, eqb-true, le-le
 use Rattle.std.proofs.shelf.Ways.{decides-and}
 use Rattle.std.specs.Orderings.{Decides}
 use Rattle.std.specs.declared.option.Option.the-variants.{None, Some}
-use Rattle.std.specs.declared.option.Option.{Option}
 use Rattle.workorder.specs.Orders.{Holds}
 use lib.Dec.{eqb, leb}
 use mathlib.Core.Bool.{Bool, true, false, cond, not, _||_}
 use mathlib.Core.Logic.{inl, inr}
-use mathlib.Core.Path.{_≡_, refl, sym, ap, _∙_}
+use mathlib.Core.Path.{_≡_, refl, ap, _∙_}
 use native.Mathlib.Nat.{div-div-eq-div-mul, pow-succ'}
 use native.Mathlib.Omega.{arith}
 

@@ -2,7 +2,7 @@
 use Prim.Native.Nat.{ℕ, _+_, _-_, _*_, _/_, _%_, _≤_, _<_}
 use Rattle.chain.proofs.Numbering.{entry-of-table, state-inside}
 use Rattle.chain.proofs.Radix.{digit, number, digit-of-number, number-of-digits}
-use Rattle.chain.proofs.Sums.{every-decides, over-alike, product-positive}
+use Rattle.chain.proofs.Sums.{every-decides, over-alike}
 use Rattle.chain.specs.Over.{Entries, entry, every, product}
 use Rattle.chain.specs.Parts.{LivesInRange, LawfulTerms, life}
 use Rattle.chain.specs.States.{Aged, Same-state, Without-loss, age-in, all-states, failed-in, number-of, possible, state-at, state-in, state-with, table-of}
@@ -10,11 +10,9 @@ use Rattle.chain.specs.declared.numbers.ChainNumbers.{ChainNumbers}
 use Rattle.chain.specs.declared.states.ChainState.{ChainState}
 use Rattle.std.proofs.shelf.Bits.{div-add-mod', div-below, div-mul-add, mod-below, mod-mul-add}
 use Rattle.std.proofs.shelf.Tests.{and-from, and-parts, cases-bool, cond-true, le-leb, le-ltb, leb-true, lt-ltb, ltb-true}
-use Rattle.std.proofs.shelf.Ways.{decides-and, tells}
+use Rattle.std.proofs.shelf.Ways.{decides-and}
 use Rattle.std.specs.Orderings.{Decides}
 use Rattle.std.specs.declared.option.Option.the-variants.{None, Some}
-use Rattle.std.specs.declared.option.Option.{Option}
-use Rattle.workorder.specs.Orders.{max-parts}
 use lib.Dec.{leb, ltb}
 use mathlib.Core.Bool.{Bool, true, false, cond, _&&_}
 use mathlib.Core.List.{List}

@@ -1,5 +1,5 @@
 -- The ages at which the parts of a feasible portfolio start the window.
-use Prim.Native.Nat.{ℕ, _≤_, _<_}
+use Prim.Native.Nat.{ℕ, _<_}
 use Rattle.chain.proofs.Numbering.{Below-lives}
 use Rattle.chain.proofs.Renewals.{renews-decides, worn-decides}
 use Rattle.chain.proofs.RoundTrips.{age-within}
@@ -16,7 +16,7 @@ use Rattle.std.specs.declared.option.Option.{Option}
 use mathlib.Core.Bool.{true}
 use mathlib.Core.List.{List}
 use mathlib.Core.Logic.{inl, inr}
-use mathlib.Core.Path.{_≡_, sym, ap}
+use mathlib.Core.Path.{_≡_, ap}
 use native.Mathlib.Omega.{arith}
 
 -- where no part at its life is left, every part starts below its life

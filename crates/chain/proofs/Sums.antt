@@ -4,12 +4,12 @@ use Rattle.std.proofs.shelf.Bits.{mul-le}
 use Rattle.chain.specs.Over.{Entries, over-parts, product, every, entry}
 use Rattle.std.proofs.shelf.Tests.{and-from, and-parts, both-ways, cases-bool, cases-lt}
 use Rattle.std.specs.Orderings.{Decides}
-use lib.ListN.{length, getD, set}
+use lib.ListN.{length, set}
 use lib.Seq.{getD-set-same, getD-set-other}
-use mathlib.Core.Bool.{Bool, true, false, _&&_}
+use mathlib.Core.Bool.{Bool, true, false}
 use mathlib.Core.List.{List}
 use mathlib.Core.Logic.{_≢_, inl, inr}
-use mathlib.Core.Path.{_≡_, refl, sym, ap, subst, _∙_}
+use mathlib.Core.Path.{_≡_, refl, ap, _∙_}
 use native.Mathlib.Nat.{pow-suc, pow-zero}
 use native.Mathlib.Numerals.{add-one}
 use native.Mathlib.Omega.{arith}
@@ -38,15 +38,6 @@ product-positive f (suc k) some = one-each (product f k) (f (k + 1)) (product-po
     one-each (suc a) zero h g = absurd (omega arith)
     one-each (suc a) (suc b) h g = omega arith
 
--- a part's share of a sum
-pub over-part : (f : ℕ → ℕ) (k i : ℕ) → 1 ≤ i → i ≤ k → f i ≤ over-parts f k
-over-part f zero i some most = absurd (omega arith)
-over-part f (suc k) i some most =
-    elim (cases-lt i (suc k)) [
-      | inl below ↦ omega (arith, over-part f k i some (omega arith))
-      | inr last ↦ (let here : i ≡ k + 1 = omega arith in let so : f i ≡ f (k + 1) = ap f here in omega arith)
-    ]
-
 -- what a test of every part says
 pub every-decides : (p : ℕ → Bool) (P : ℕ → Type 0) (k : ℕ) → ((i : ℕ) → 1 ≤ i → i ≤ k → Decides (p i) (P i)) → Decides (every p k) ((i : ℕ) → 1 ≤ i → i ≤ k → P i)
 every-decides p P zero each = (λ _ i some most. absurd (omega arith), λ _. refl)
@@ -59,9 +50,6 @@ every-decides p P (suc k) each =
           ],
       λ h. and-from (every p k) (p (k + 1)) (before .1 (λ i some most. h i some (omega arith))) (each (k + 1) (omega arith) (omega arith) .1 (h (k + 1) (omega arith) (omega arith))),
     )
-
-pub entries-none : (f : ℕ → ℕ) (xs : List ℕ) → Entries f 0 xs
-entries-none f xs i some most = absurd (omega arith)
 
 -- one entry more of a table
 pub entries-more : (f : ℕ → ℕ) (k v : ℕ) (xs : List ℕ) → k < length xs → v ≡ f (k + 1) → Entries f k xs → Entries f (k + 1) (set xs k v)
@@ -76,14 +64,6 @@ pub product-at-most : (f : ℕ → ℕ) (b k : ℕ) → ((i : ℕ) → 1 ≤ i �
 product-at-most f b zero most = omega (arith, pow-zero b)
 product-at-most f b (suc k) most =
     omega (arith, pow-suc b k, mul-le (product f k) (f (k + 1)) (b ^ k) b (product-at-most f b k (λ i some l. most i some (omega arith))) (most (k + 1) (omega arith) (omega arith)))
-
--- what holds of the first k parts, and of the next
-pub parts-more : (P : ℕ → Type 0) (k : ℕ) → ((i : ℕ) → 1 ≤ i → i ≤ k → P i) → P (k + 1) → (i : ℕ) → 1 ≤ i → i ≤ k + 1 → P i
-parts-more P k before here i some most =
-    elim (cases-lt i (k + 1)) [
-      | inl h ↦ before i some (omega arith)
-      | inr h ↦ (let same : k + 1 ≡ i = omega arith in subst P same here)
-    ]
 
 pub every-more : (p : ℕ → Bool) (k : ℕ) → every p k ≡ true → p (k + 1) ≡ true → every p (k + 1) ≡ true
 every-more p k before here = ap (every p) (add-one k) ∙ and-from (every p k) (p (k + 1)) before here

@@ -2,7 +2,7 @@
 ghost use Prim.Native.Nat.{_≤_};
 ghost use Rattle.chain.specs.Chains.{Renewable, Unrenewable, survives as the-survives};
 ghost use Rattle.chain.specs.Parts.{HazardsInRange, LawfulTerms, LivesInRange, arcs-of};
-ghost use Rattle.chain.specs.Portfolios.{all-portfolios, everything as the-whole, failure-renewed as the-failure};
+ghost use Rattle.chain.specs.Portfolios.{all-portfolios, failure-renewed as the-failure};
 ghost use Rattle.std.specs.Orderings.{When};
 ghost use Rattle.workorder.specs.Orders.{LeastTable, max-parts, portfolios as least-places};
 ghost use mathlib.Core.Path.{_≡_};

@@ -2,7 +2,7 @@
 ghost use Prim.Native.Nat.{ℕ, _+_, _-_, _≤_, _<_};
 ghost use Rattle.chain.specs.Over.{Entries, entry as the-entry};
 ghost use Rattle.chain.specs.Parts.{LawfulTerms, LivesInRange, life as the-life};
-ghost use Rattle.chain.specs.States.{Aged, age-in, all-states, failed-in, number-of, state-at, state-with, table-of};
+ghost use Rattle.chain.specs.States.{Aged, age-in, all-states, failed-in, number-of, state-with, table-of};
 ghost use Rattle.std.specs.Options.{Cases as BySome};
 ghost use Rattle.workorder.specs.Orders.{max-parts};
 ghost use mathlib.Core.Path.{_≡_};

@@ -3,9 +3,8 @@ use Rattle.chain.proofs.Dearest.{none-dearer, none-dearer-more, in-take}
 use Rattle.chain.proofs.numbers.ChainNumbers.arcs_in_range.Needs as need
 use Rattle.chain.specs.Limits.{most-charge}
 use Rattle.std.proofs.shelf.Tests.{false≢true}
-use Rattle.workorder.specs.Orders.{NoneDearer}
 use Rattle.workorder.specs.declared.Arc.{Arc}
-use lib.ListN.{getD, take}
+use lib.ListN.{getD}
 use mathlib.Core.Path.{_≡_, refl}
 use native.Mathlib.Omega.{arith}
 

@@ -1,11 +1,10 @@
-use Prim.Native.Nat.{_+_, _-_, _<_, _≤_}
+use Prim.Native.Nat.{_+_, _-_}
 use Rattle.chain.proofs.Sums.{over-more}
 use Rattle.chain.proofs.numbers.ChainNumbers.hazard_sum.Needs as need
-use Rattle.chain.specs.Limits.{most-hazard}
 use Rattle.chain.specs.Over.{entry}
-use Rattle.chain.specs.Parts.{hazard, life}
+use Rattle.chain.specs.Parts.{hazard}
 use lib.ListN.{getD}
-use mathlib.Core.Path.{_≡_, ap, sym}
+use mathlib.Core.Path.{_≡_, ap}
 use native.Mathlib.Omega.{arith}
 
 pub hazard-total-requires : need.hazard-total-requires

@@ -1,9 +1,11 @@
-use Prim.Native.Nat.{_+_, _*_, _<_}
+use Prim.Native.Nat.{_+_, _*_, _^_, _<_}
 use Rattle.chain.proofs.Numbering.{lives-few, lives-more, number-few, number-more, state-inside, states-fit}
 use Rattle.chain.proofs.Radix.{number}
 use Rattle.chain.proofs.numbers.ChainNumbers.number_after.Needs as need
+use Rattle.chain.specs.Limits.{most-life}
 use Rattle.chain.specs.Over.{entry, product}
 use Rattle.chain.specs.Parts.{life}
+use Rattle.workorder.specs.Orders.{max-parts}
 use mathlib.Core.Path.{_≡_, ap}
 use native.Mathlib.Omega.{arith}
 
@@ -30,7 +32,7 @@ mul-width c = omega (arith, longer c, lives-few (c .args .self .now) (c .loop-i 
 pub loop-i-again : need.loop-i-again
 loop-i-again c = (longer c, number-more (c .args .self .now) (c .args .starts .now) (c .loop-i .i) (c .loop-i .total) (c .loop-i .width) (c .loop-i .inv .0) (c .loop-i .inv .1))
 
-inside : (c : need.After-loop-i) → (c .args .self .now .count + 1) * c .loop-i .total + c .args .failed < 448000000
+inside : (c : need.After-loop-i) → (c .args .self .now .count + 1) * c .loop-i .total + c .args .failed < (max-parts + 1) * most-life ^ max-parts
 inside c =
     let n = c .args .self .now in
     let end : c .loop-i .i ≡ n .count = omega arith in
