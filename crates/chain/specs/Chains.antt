@@ -41,7 +41,7 @@ least-order table x = getD table x None
 abbrev pub chain-feasible : ChainNumbers → List (Option ℕ) → ℕ → ℕ → Bool
 chain-feasible n table s x = (ltb s (all-states n) && ltb x (all-portfolios n)) && ((failure-renewed n s x && worn-renewed n s x) && (isSome (least-order table x) && survives n (hazard-sum n s x)))
 
--- The ages at which the parts start the window, absent exactly when the portfolio is not feasible in the state.
+-- The ages at which the parts start the window: there for a feasible portfolio and for no other.
 abbrev pub Starts : ChainNumbers → List (Option ℕ) → ℕ → ℕ → Option (List ℕ) → Type 0
 Starts n table s x None = chain-feasible n table s x ≡ false
 Starts n table s x (Some starts) = (chain-feasible n table s x ≡ true) × Entries (start-age n s x) (n .count) starts

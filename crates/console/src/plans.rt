@@ -38,7 +38,7 @@ impl Refused {
 }
 
 // Reads what follows the plant, and plans.
-pub fn with_plant<P: Plant>(
+pub(crate) fn with_plant<P: Plant>(
     rt: &LibcRuntime,
     plant: &P,
     lines: &mut Lines,

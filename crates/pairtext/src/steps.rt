@@ -1,4 +1,4 @@
-// One line of a pair's text. Each line is judged by its key and by what is due.
+// One line of a pair's text, taken by the stage of the reader and the line's key.
 ghost use mathlib.Core.Path.{_≡_};
 ghost use Prim.Native.Nat.{_≤_, _<_};
 ghost use Rattle.pair.specs.Limits.{most-grades};
@@ -181,7 +181,7 @@ impl PairReader {
         Ok(())
     }
 
-    // Judges one line by its key and by what is due, and moves on; a refused line leaves the reader as it was.
+    // Takes one line by the stage and the key, and moves on; a refused line leaves the reader as it was.
     pub(crate) fn step(&mut self, key: Key, value: &[u8]) -> Result<(), Rule>
         requires { ⌜ Sound (now self) ⌝ }
         ensures answer { λ r. ⌜ r ≡ answer-of (pair-step (now (self .entry)) key (now (value .entry))) ⌝ }

@@ -6,7 +6,7 @@ use lines::reading::BAD_LINE;
 // The rule that a line breaks.
 #[derive(Clone, Copy, PartialEq, Eq, Debug)]
 pub enum Rule {
-    // No equals sign, an empty key, or a bad byte or length.
+    // The line itself is bad: its bytes, its length, or no key with an equals sign.
     BadLine,
     // Not the key or the word that is due, or no line at all.
     Unexpected,
@@ -14,7 +14,7 @@ pub enum Rule {
     OutOfRange,
     // More states than a plant may have.
     TooManyStates,
-    // An arc from a part to itself, into 0, or out of order.
+    // An arc that leads nowhere new: into the door, back to its own part, or not after the one before.
     WrongArc,
     // Not even the renewal of everything is feasible.
     NoFullRenewal,
