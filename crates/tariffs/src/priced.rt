@@ -39,12 +39,6 @@ impl Priced {
         }
         Ok(Priced { rate })
     }
-
-    pub fn rate(&self) -> u32
-        ensures { λ r. ⌜ r ≡ now (self .entry) .rate ⌝ }
-    {
-        self.rate
-    }
 }
 
 pub impl Tariff for Priced as PricedTariff {
