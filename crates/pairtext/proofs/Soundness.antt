@@ -6,7 +6,7 @@ use mathlib.Core.Logic.{_⊎_, inl, inr, ⊎-elim, _≢_}
 use Prim.Native.Nat.{ℕ, zero, suc, _+_, _-_, _^_, _≤_, _<_}
 use native.Mathlib.Omega.{arith}
 use lib.Dec.{eqb}
-use lib.ListN.{length, getD, set}
+use lib.ListN.{length, getD, set, take}
 use Rattle.std.specs.declared.option.Option.{Option}
 use Rattle.std.specs.declared.option.Option.the-variants.{Some, None}
 use Rattle.std.specs.declared.result.Result.{Result}
@@ -29,11 +29,11 @@ use Rattle.pairtext.specs.declared.stage.Stage.the-variants.{KindDue, Threshol
 use Rattle.pairtext.specs.declared.stage.UnitName.{UnitName}
 use Rattle.pairtext.specs.declared.stage.UnitName.the-variants.{One, Two}
 use Rattle.pairtext.specs.Readers.{unit-index, no-unit, opened-unit, fresh, with-grades, with-row, with-planned, with-forced, with-dark, at-stage, with-threshold, with-setup, with-inspect, with-unit, with-opened, at-row}
-use Rattle.pairtext.specs.Rows.{row-of}
-use Rattle.pairtext.specs.Sound.{Graded, WhollyGraded, Kept, Earlier, Here, Sound}
+use Rattle.pairtext.specs.Rows.{padded, row-of}
+use Rattle.pairtext.specs.Sound.{Graded, WhollyGraded, laid, Kept, Other, Here, Sound}
 use Rattle.pairtext.specs.Texts.{numbers-read}
 use Rattle.pairtext.specs.Steps.{Step, on, on-word, behind-row, behind-unit, take-row, take-at, pair-step, is-due}
-use Rattle.pairtext.proofs.RowLaws.{RowLaw, read-row-law}
+use Rattle.pairtext.proofs.RowLaws.{RowLaw, read-row-law, read-row-form, laid-more}
 
 -- a step that was made
 pub on-made : {X : Type 0} (o : Option X) (f : X → PairReader) (next : PairReader) → on o f ≡ Ok next → (x : X) × ((o ≡ Some x) × (f x ≡ next))
@@ -48,15 +48,15 @@ word-made value word r next e = tested (sameBytes value word) refl e
     tested false q e = let z : _≡_ {A = ℕ} 0 1 = cc in absurd (omega arith)
 
 -- the table of both units with one of them put in
-index-within : (n : UnitName) → unit-index n < 2
+pub index-within : (n : UnitName) → unit-index n < 2
 index-within One = omega arith
 index-within Two = omega arith
 
 module _ (us : List UnitNumbers) (both : length us ≡ 2) (n : UnitName) (u : UnitNumbers) where
-  put-here : getD (set us (unit-index n) u) (unit-index n) no-unit ≡ u
+  pub put-here : getD (set us (unit-index n) u) (unit-index n) no-unit ≡ u
   put-here = getD-set-same us (unit-index n) u no-unit (omega (arith, index-within n))
 
-  put-both : length (set us (unit-index n) u) ≡ 2
+  pub put-both : length (set us (unit-index n) u) ≡ 2
   put-both = length-set us (unit-index n) u ∙ both
 
   put-kept : Kept u → ((i : ℕ) → i < 2 → Kept (getD us i no-unit)) → (i : ℕ) → i < 2 → Kept (getD (set us (unit-index n) u) i no-unit)
@@ -66,10 +66,10 @@ module _ (us : List UnitNumbers) (both : length us ≡ 2) (n : UnitName) (u : Un
       (λ (e : i ≡ unit-index n → ⊥). subst Kept (sym (getD-set-other us (unit-index n) i u no-unit e)) (h i l))
       (cases-eq i (unit-index n))
 
--- unit 1 stays as it was where unit 2 is put in
-put-earlier : (us : List UnitNumbers) (n : UnitName) (u : UnitNumbers) (r q : PairReader) → r .units ≡ us → q .units ≡ set us (unit-index n) u → Earlier n r → Earlier n q
-put-earlier us One u r q e f h = tt
-put-earlier us Two u r q e f h =
+-- the other unit stays as it was
+put-other : (us : List UnitNumbers) (n : UnitName) (u : UnitNumbers) (r q : PairReader) → r .units ≡ us → q .units ≡ set us (unit-index n) u → Other n r → Other n q
+put-other us One u r q e f h = ap (λ l. getD l 1 no-unit .rows) f ∙ ap (λ (v : UnitNumbers). v .rows) (getD-set-other us 0 1 u no-unit (λ z. omega arith)) ∙ sym (ap (λ l. getD l 1 no-unit .rows) e) ∙ h
+put-other us Two u r q e f h =
     subst WhollyGraded (ap (λ l. getD l 0 no-unit) e ∙ sym (getD-set-other us 1 0 u no-unit (λ z. omega arith)) ∙ sym (ap (λ l. getD l 0 no-unit) f)) h
 
 -- a sound reader with a unit put in, at a stage where that unit is so far read
@@ -80,13 +80,13 @@ put-sound r s k u h kept here = record {
   inspect = h .inspect;
   both = put-both (r .units) (h .both) (r .opened) u;
   kept = put-kept (r .units) (h .both) (r .opened) u kept (h .kept);
-  earlier = put-earlier (r .units) (r .opened) u r (at-stage s (at-row k (with-unit u r))) refl refl (h .earlier);
+  other = put-other (r .units) (r .opened) u r (at-stage s (at-row k (with-unit u r))) refl refl (h .other);
   here = here;
 }
 
-earlier-same : (n : UnitName) (r q : PairReader) → q .units ≡ r .units → Earlier n r → Earlier n q
-earlier-same One r q e h = tt
-earlier-same Two r q e h = subst (λ us. WhollyGraded (getD us 0 no-unit)) (sym e) h
+other-same : (n : UnitName) (r q : PairReader) → q .units ≡ r .units → Other n r → Other n q
+other-same One r q e h = ap (λ us. getD us 1 no-unit .rows) e ∙ h
+other-same Two r q e h = subst (λ us. WhollyGraded (getD us 0 no-unit)) (sym e) h
 
 -- the same units, at another stage or with another number
 same-sound : (r q : PairReader) → Sound r → q .threshold ≤ most-threshold → q .setup ≤ most-charge → q .inspect ≤ most-charge → q .units ≡ r .units → q .opened ≡ r .opened → Here (q .stage) q → Sound q
@@ -96,7 +96,7 @@ same-sound r q h threshold setup inspect us opened here = record {
   inspect = inspect;
   both = ap length us ∙ h .both;
   kept = λ i l. subst (λ l. Kept (getD l i no-unit)) (sym us) (h .kept i l);
-  earlier = subst (λ n. Earlier n q) (sym opened) (earlier-same (r .opened) r q us (h .earlier));
+  other = subst (λ n. Other n q) (sym opened) (other-same (r .opened) r q us (h .other));
   here = here;
 }
 
@@ -107,8 +107,8 @@ module _ (u : UnitNumbers) (row : ℕ) (hs : List ℕ) (long : length (u .rows) 
       let back : (row + 1) - 1 ≡ row = omega arith in
       ap (λ k. getD (set (u .rows) row hs) k []) back ∙ getD-set-same (u .rows) row hs [] (omega (arith, long))
 
-  pub more-graded : Graded row u → RowLaw hs (row + 1) (u .grades) → Graded (row + 1) (with-row row hs u)
-  more-graded h law = (
+  pub more-graded : Graded row u → RowLaw hs (row + 1) (u .grades) → hs ≡ padded (take (u .grades) hs) → Graded (row + 1) (with-row row hs u)
+  more-graded h law form = (
     h .0,
     h .1,
     (λ g low high. ⊎-elim
@@ -117,6 +117,7 @@ module _ (u : UnitNumbers) (row : ℕ) (hs : List ℕ) (long : length (u .rows) 
         let other : g - 1 ≢ row = (λ q. e (omega arith)) in
         subst (λ l. RowLaw l g (u .grades)) (sym (getD-set-other (u .rows) row (g - 1) hs [] other)) (h .2 g low (omega arith)))
         (cases-eq g (row + 1))),
+    laid-more (u .rows) row (u .grades) hs room long (h .3) form,
   )
 
 module _ (r : PairReader) (h : Sound r) (value : List ℕ) (next : PairReader) where
@@ -127,12 +128,12 @@ module _ (r : PairReader) (h : Sound r) (value : List ℕ) (next : PairReader) w
   put : (P : UnitNumbers → Type 0) (v : UnitNumbers) → P v → P (opened-unit (with-unit v r))
   put P v p = subst P (sym (put-here (r .units) (h .both) (r .opened) v)) p
 
-  bounds : (least most n : ℕ) → most < 2 ^ 64 → number-between value least most ≡ Some n → (least ≤ n) × (n ≤ most)
+  pub bounds : (least most n : ℕ) → most < 2 ^ 64 → number-between value least most ≡ Some n → (least ≤ n) × (n ≤ most)
   bounds least most n small e = let b = between-law value least most small n .0 e in (b .1, b .2)
 
   behind-row-sound : (hs : List ℕ) (t : Bool) → Graded (r .row) (opened-unit r) × (r .row + 1 < opened-unit r .grades) → row-of value (opened-unit r .grades) (r .row) ≡ Some hs → eqb (r .row + 1 + 1) (opened-unit r .grades) ≡ t → Sound (at-stage (cond t PlannedDue RowDue) (at-row (r .row + 1) (with-unit (with-row (r .row) hs (opened-unit r)) r)))
   behind-row-sound hs t now e q =
-      let more : Graded (r .row + 1) (with-row (r .row) hs (opened-unit r)) = more-graded (opened-unit r) (r .row) hs (u-kept .0) (omega (arith, now .0 .1, now .1)) (now .0) (read-row-law value (opened-unit r .grades) (r .row) hs e) in
+      let more : Graded (r .row + 1) (with-row (r .row) hs (opened-unit r)) = more-graded (opened-unit r) (r .row) hs (u-kept .0) (omega (arith, now .0 .1, now .1)) (now .0) (read-row-law value (opened-unit r .grades) (r .row) hs e) (read-row-form value (opened-unit r .grades) (r .row) hs e) in
       put-sound r (cond t PlannedDue RowDue) (r .row + 1) (with-row (r .row) hs (opened-unit r)) h (length-set (opened-unit r .rows) (r .row) hs ∙ u-kept .0, u-kept .1) (by t q more)
     where
       by : (t : Bool) → eqb (r .row + 1 + 1) (opened-unit r .grades) ≡ t → Graded (r .row + 1) (with-row (r .row) hs (opened-unit r)) → Here (cond t PlannedDue RowDue) (at-stage (cond t PlannedDue RowDue) (at-row (r .row + 1) (with-unit (with-row (r .row) hs (opened-unit r)) r)))
@@ -150,36 +151,36 @@ module _ (r : PairReader) (h : Sound r) (value : List ℕ) (next : PairReader) w
     inspect = h .inspect;
     both = put-both (r .units) (h .both) (r .opened) (with-dark dark (opened-unit r));
     kept = put-kept (r .units) (h .both) (r .opened) (with-dark dark (opened-unit r)) (u-kept .0, (u-kept .1 .0, u-kept .1 .1, low)) (h .kept);
-    earlier = subst (λ i. WhollyGraded (getD (set (r .units) (unit-index (r .opened)) (with-dark dark (opened-unit r))) i no-unit)) (ap unit-index e) (put WhollyGraded (with-dark dark (opened-unit r)) now);
-    here = tt;
+    other = subst (λ i. WhollyGraded (getD (set (r .units) (unit-index (r .opened)) (with-dark dark (opened-unit r))) i no-unit)) (ap unit-index e) (put WhollyGraded (with-dark dark (opened-unit r)) now);
+    here = put-other (r .units) One (with-dark dark (opened-unit r)) r (with-unit (with-dark dark (opened-unit r)) r) refl (ap (λ n. set (r .units) (unit-index n) (with-dark dark (opened-unit r))) e) (subst (λ n. Other n r) e (h .other));
   }
   behind-unit-sound Two dark e now low =
       put-sound r EndDue (r .row) (with-dark dark (opened-unit r)) h (u-kept .0, (u-kept .1 .0, u-kept .1 .1, low)) (put WhollyGraded (with-dark dark (opened-unit r)) now, e)
 
-  sound-at : (s : Stage) → Here s r → take-at s r value ≡ Ok next → Sound next
+  pub sound-at : (s : Stage) → Here s r → take-at s r value ≡ Ok next → Sound next
   sound-at KindDue now e =
       let m = word-made value _ (at-stage ThresholdDue r) next e in
-      subst Sound (m .1) (same-sound r (at-stage ThresholdDue r) h (h .threshold) (h .setup) (h .inspect) refl refl tt)
+      subst Sound (m .1) (same-sound r (at-stage ThresholdDue r) h (h .threshold) (h .setup) (h .inspect) refl refl now)
   sound-at ThresholdDue now e =
       let m = on-made (number-between value 0 most-threshold) _ next e in
       let b = bounds 0 most-threshold (m .0) (omega arith) (m .1 .0) in
-      subst Sound (m .1 .1) (same-sound r (at-stage SetupDue (with-threshold (m .0) r)) h (b .1) (h .setup) (h .inspect) refl refl tt)
+      subst Sound (m .1 .1) (same-sound r (at-stage SetupDue (with-threshold (m .0) r)) h (b .1) (h .setup) (h .inspect) refl refl now)
   sound-at SetupDue now e =
       let m = on-made (number-between value 0 most-charge) _ next e in
       let b = bounds 0 most-charge (m .0) (omega arith) (m .1 .0) in
-      subst Sound (m .1 .1) (same-sound r (at-stage InspectDue (with-setup (m .0) r)) h (h .threshold) (b .1) (h .inspect) refl refl tt)
+      subst Sound (m .1 .1) (same-sound r (at-stage InspectDue (with-setup (m .0) r)) h (h .threshold) (b .1) (h .inspect) refl refl now)
   sound-at InspectDue now e =
       let m = on-made (number-between value 0 most-charge) _ next e in
       let b = bounds 0 most-charge (m .0) (omega arith) (m .1 .0) in
-      subst Sound (m .1 .1) (same-sound r (at-stage UnitDue (with-inspect (m .0) r)) h (h .threshold) (h .setup) (b .1) refl refl tt)
+      subst Sound (m .1 .1) (same-sound r (at-stage UnitDue (with-inspect (m .0) r)) h (h .threshold) (h .setup) (b .1) refl refl (now .0))
   sound-at UnitDue now e =
       let m = on-made _ _ next e in
-      subst Sound (m .1 .1) (same-sound r (at-stage GradesDue r) h (h .threshold) (h .setup) (h .inspect) refl refl tt)
+      subst Sound (m .1 .1) (same-sound r (at-stage GradesDue r) h (h .threshold) (h .setup) (h .inspect) refl refl now)
   sound-at GradesDue now e =
       let m = on-made (number-between value least-grades most-grades) _ next e in
       let b = bounds least-grades most-grades (m .0) (omega arith) (m .1 .0) in
       let some : 0 + 1 < m .0 = omega (arith, b .0) in
-      subst Sound (m .1 .1) (put-sound r RowDue 0 (with-grades (m .0) (opened-unit r)) h u-kept (put (λ v. Graded 0 v × (0 + 1 < v .grades)) (with-grades (m .0) (opened-unit r)) ((b .0, b .1, (λ g low high. absurd (omega arith))), some)))
+      subst Sound (m .1 .1) (put-sound r RowDue 0 (with-grades (m .0) (opened-unit r)) h u-kept (put (λ v. Graded 0 v × (0 + 1 < v .grades)) (with-grades (m .0) (opened-unit r)) ((b .0, b .1, (λ g low high. absurd (omega arith)), now), some)))
   sound-at RowDue now e =
       let m = on-made (row-of value (opened-unit r .grades) (r .row)) _ next e in
       subst Sound (m .1 .1) (behind-row-sound (m .0) (eqb (r .row + 1 + 1) (opened-unit r .grades)) now (m .1 .0) refl)
@@ -216,8 +217,8 @@ fresh-sound = record {
   inspect = omega arith;
   both = refl;
   kept = each;
-  earlier = tt;
-  here = tt;
+  other = refl;
+  here = (refl, refl);
 }
   where
     each : (i : ℕ) → i < 2 → Kept (getD (fresh .units) i no-unit)
@@ -232,6 +233,6 @@ unit-lawful u h charges = ((h .0, h .1, (λ g w. h .2 g (w .0) (omega (arith, w 
 pub complete-lawful : (r : PairReader) → Sound r → r .stage ≡ Complete → LawfulNumbers (numbers-read r)
 complete-lawful r h e =
     let now : Here Complete r = subst (λ s. Here s r) e (h .here) in
-    let one : WhollyGraded (getD (r .units) 0 no-unit) = subst (λ n. Earlier n r) (now .1) (h .earlier) in
+    let one : WhollyGraded (getD (r .units) 0 no-unit) = subst (λ n. Other n r) (now .1) (h .other) in
     let two : WhollyGraded (getD (r .units) 1 no-unit) = subst (λ n. WhollyGraded (getD (r .units) (unit-index n) no-unit)) (now .1) (now .0) in
     ((h .threshold, h .setup, h .inspect), unit-lawful _ one (h .kept 0 (omega arith) .1), unit-lawful _ two (h .kept 1 (omega arith) .1))

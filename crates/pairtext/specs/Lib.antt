@@ -3,3 +3,5 @@ pub mod Rows
 pub mod Steps
 pub mod Sound
 pub mod Texts
+pub mod Writing
+pub mod Sample

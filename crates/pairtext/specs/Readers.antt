@@ -19,12 +19,15 @@ abbrev pub unit-index : UnitName → ℕ
 unit-index One = 0
 unit-index Two = 1
 
--- a row of which nothing was read, and a unit
+-- a row of which nothing was read, all rows, and a unit
 abbrev pub blank-row : List ℕ
 blank-row = replicate most-grades 0
 
+abbrev pub blank-rows : List (List ℕ)
+blank-rows = replicate most-grades blank-row
+
 abbrev pub blank-unit : UnitNumbers
-blank-unit = record { grades = 0; rows = replicate most-grades blank-row; planned = 0; forced = 0; dark = 0 }
+blank-unit = record { grades = 0; rows = blank-rows; planned = 0; forced = 0; dark = 0 }
 
 -- a reader of which the first line is due
 abbrev pub fresh : PairReader

@@ -1,8 +1,10 @@
 // A pair's text, read line by line.
 ghost use mathlib.Core.Path.{_≡_};
 ghost use mathlib.Core.Bool.{true};
+ghost use Rattle.pairtext.specs.Sample.{SampleRead};
 ghost use Rattle.pairtext.specs.Sound.{Sound};
 ghost use Rattle.pairtext.specs.Texts.{complete, numbers-read, judged, read-pair, answered, done, PlantAfter};
+ghost use Rattle.pairtext.specs.Writing.{ReadsPair};
 use crate::reader::PairReader;
 use crate::stage::Stage;
 use lines::reading::Line;
@@ -60,6 +62,8 @@ pub fn read_pair(lines: &mut Lines) -> Result<Pair, ReadRefusal>
     ensures answer { λ r. ⌜ answered r ≡ read-pair (now (now (lines .entry) .rest)) (now (lines .entry) .place) .answer ⌝ }
     ensures rest { λ _. ⌜ now (now (lines .exit) .rest) ≡ read-pair (now (now (lines .entry) .rest)) (now (lines .entry) .place) .rest ⌝ }
     ensures place { λ _. ⌜ now (lines .exit) .place ≡ read-pair (now (now (lines .entry) .rest)) (now (lines .entry) .place) .place ⌝ }
+    ensures law { λ r. ⌜ ReadsPair (now (now (lines .entry) .rest)) (answered r) (now (now (lines .exit) .rest)) ⌝ }
+    ensures sample { λ _. ⌜ SampleRead ⌝ }
 {
     let mut reader = PairReader::new();
     loop {

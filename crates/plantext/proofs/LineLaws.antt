@@ -8,65 +8,59 @@ use native.Mathlib.Omega.{arith}
 use lib.Dec.{eqb, ltb}
 use lib.ListN.{length, take, getD}
 use Rattle.std.specs.Finite.{nth}
+use Rattle.std.specs.Iters.{counting}
 use Rattle.std.specs.Options.{mapped}
 use Rattle.std.specs.declared.option.Option.{Option}
 use Rattle.std.specs.declared.option.Option.the-variants.{Some, None}
 use Rattle.std.specs.declared.result.Result.{Result}
 use Rattle.std.specs.declared.result.Result.the-variants.{Ok, Err}
-use Rattle.std.proofs.shelf.Tests.{eqb-true, eqb-false, ltb-true, ltb-false, and-parts}
-use Rattle.interface.specs.Rows.{Row}
+use Rattle.std.proofs.shelf.Tests.{eqb-true}
 use Rattle.lines.specs.Placed.{fits, endOf, placed}
 use Rattle.lines.proofs.PlaceLaws.{placed-between}
 use Rattle.plantext.specs.declared.refusal.LineRefusal.{LineRefusal}
 use Rattle.plantext.specs.declared.refusal.LineRefusal.the-variants.{WrongLength, NoSpace}
-use Rattle.plantext.specs.declared.stage.Stage.the-variants.{Row as RowStage, End}
-use Rattle.plantext.specs.Lines.{Plan, row-line, end-line, row-lines, plan-lines}
+use Rattle.plantext.specs.declared.stage.Stage.{Stage}
+use Rattle.plantext.specs.declared.stage.Stage.the-variants.{Row, End}
+use Rattle.plantext.specs.Lines.{Plan, stages, stage-line, plan-lines}
 use Rattle.plantext.specs.Spaces.{level, Put, line-answer, line-space, AnswersLine}
-use Rattle.plantext.specs.Stages.{stage-of-row, stage-at, stage-line}
 
--- the lines of the states from s on, and the end behind them
-abbrev rows : ℕ → List Row → List ℕ → List (List ℕ)
-rows s us xs = row-lines s us xs ++ (end-line ∷ [])
+nth-map : {A B : Type 0} (f : A → B) (xs : List A) (i : ℕ) → nth (map f xs) i ≡ mapped f (nth xs i)
+nth-map f [] i = refl
+nth-map f (x ∷ xs) zero = refl
+nth-map f (x ∷ xs) (suc i) = nth-map f xs i
 
-row-at : (s : ℕ) (us : List Row) (xs : List ℕ) (i : ℕ) → length xs ≡ length us → i < length us → nth (rows s us xs) i ≡ Some (row-line (s + i) (getD xs i 0) (getD us i []))
-row-at s [] xs i e l = absurd (omega arith)
-row-at s (u ∷ us) [] i e l = absurd (omega arith)
-row-at s (u ∷ us) (x ∷ xs) zero e l = ap (λ n. Some (row-line n x u)) (sym (add-zero s))
-row-at s (u ∷ us) (x ∷ xs) (suc i) e l = row-at (suc s) us xs i (omega arith) (omega arith) ∙ ap (λ n. Some (row-line n (getD xs i 0) (getD us i []))) (omega arith)
+-- the stages behind the claims
+abbrev pub row-stages : ℕ → List Stage
+row-stages n = map Row (counting 0 n) ++ (End ∷ [])
 
-end-at : (s : ℕ) (us : List Row) (xs : List ℕ) → length xs ≡ length us → nth (rows s us xs) (length us) ≡ Some end-line
-end-at s [] xs e = refl
-end-at s (u ∷ us) [] e = absurd (omega arith)
-end-at s (u ∷ us) (x ∷ xs) e = end-at (suc s) us xs (omega arith)
+-- the same from the row of state s on, with n rows
+module _ where
+  pub row-stage : (s n i : ℕ) → i < n → nth (map Row (counting s n) ++ (End ∷ [])) i ≡ Some (Row (s + i))
+  row-stage s zero i l = absurd (omega arith)
+  row-stage s (suc n) zero l = ap (λ k. Some (Row k)) (sym (add-zero s))
+  row-stage s (suc n) (suc i) l = row-stage (s + 1) n i (omega arith) ∙ ap (λ k. Some (Row k)) (omega arith)
 
-none-at : (s : ℕ) (us : List Row) (xs : List ℕ) (i : ℕ) → length xs ≡ length us → length us < i → nth (rows s us xs) i ≡ None
-none-at s [] xs zero e l = absurd (omega arith)
-none-at s [] xs (suc i) e l = refl
-none-at s (u ∷ us) [] i e l = absurd (omega arith)
-none-at s (u ∷ us) (x ∷ xs) zero e l = absurd (omega arith)
-none-at s (u ∷ us) (x ∷ xs) (suc i) e l = none-at (suc s) us xs i (omega arith) (omega arith)
+  pub end-stage : (s n : ℕ) → nth (map Row (counting s n) ++ (End ∷ [])) n ≡ Some End
+  end-stage s zero = refl
+  end-stage s (suc n) = end-stage (s + 1) n
+
+  pub no-stage : (s n i : ℕ) → n < i → nth (map Row (counting s n) ++ (End ∷ [])) i ≡ None
+  no-stage s zero zero l = absurd (omega arith)
+  no-stage s zero (suc i) l = refl
+  no-stage s (suc n) zero l = absurd (omega arith)
+  no-stage s (suc n) (suc i) l = no-stage (s + 1) n i (omega arith)
+
+-- the stage of line j, behind the claims
+pub stage-past : (n j : ℕ) → 3 ≤ j → nth (stages n) j ≡ nth (map Row (counting 0 n) ++ (End ∷ [])) (j - 3)
+stage-past n j l = let is : j ≡ suc (suc (suc (j - 3))) = omega arith in ap (nth (stages n)) is
 
 -- line j of a plan
-pub line-at : (p : Plan) (j : ℕ) → length (p .policy) ≡ length (p .values) → nth (plan-lines p) j ≡ mapped (stage-line p) (stage-at (length (p .values)) j)
-line-at p zero e = refl
-line-at p (suc zero) e = refl
-line-at p (suc (suc zero)) e = refl
-line-at p (suc (suc (suc s))) e = by (ltb s (length (p .values))) (eqb s (length (p .values))) refl refl
-  where
-    by : (t v : Bool) → ltb s (length (p .values)) ≡ t → eqb s (length (p .values)) ≡ v → nth (rows 0 (p .values) (p .policy)) s ≡ mapped (stage-line p) (cond t (Some (RowStage s)) (cond v (Some End) None))
-    by true v q q′ = row-at 0 (p .values) (p .policy) s e (ltb-true _ _ q) ∙ ap (λ m. Some (row-line m (getD (p .policy) s 0) (getD (p .values) s []))) (zero-add s)
-    by false true q q′ = ap (nth (rows 0 (p .values) (p .policy))) (eqb-true s _ q′) ∙ end-at 0 (p .values) (p .policy) e
-    by false false q q′ =
-        let not : (s ≡ length (p .values) → ⊥) = eqb-false _ _ q′ in
-        let most : length (p .values) ≤ s = ltb-false _ _ q in
-        none-at 0 (p .values) (p .policy) s e (omega arith)
+pub line-at : (p : Plan) (j : ℕ) → nth (plan-lines p) j ≡ mapped (stage-line p) (nth (stages (length (p .values))) j)
+line-at p j = nth-map (stage-line p) (stages (length (p .values))) j
 
 -- what was written at the front of a space
 pub put-front : {l s t : List ℕ} {e : ℕ} → Put l 0 s t e → take (e - 0) t ≡ l
 put-front {l} {s} {t} {e} p = ap (take (e - 0)) (p .after) ∙ placed-between l s 0 e (p .ends)
-
-pub level-same : (n m : ℕ) → level n m ≡ true → m ≡ n
-level-same n m h = eqb-true m n (and-parts _ _ h .0)
 
 module _ (p : Plan) (j : ℕ) (space : List ℕ) where
   pub not-level : level (length (p .values)) (length (p .policy)) ≡ false → AnswersLine p j space space (Err WrongLength)

@@ -9,10 +9,9 @@ ghost use Rattle.std.specs.Finite.{nth};
 ghost use Rattle.std.specs.Written.{decimal, signed};
 ghost use Rattle.std.specs.declared.option.Option.the-variants.{Some};
 ghost use Rattle.lines.specs.Fields.{comma, joined};
-ghost use Rattle.plantext.specs.Lines.{line, amount as amountText, states-line, row-line, end-line};
+ghost use Rattle.plantext.specs.Lines.{line, amount as amountText, states-line, row-line, end-line, stage-line, Inside, Held};
 ghost use Rattle.lines.specs.Line.{equalsSign};
-ghost use Rattle.plantext.specs.Spaces.{separated, level, Put, AnswersLine};
-ghost use Rattle.plantext.specs.Stages.{stage-line, Inside};
+ghost use Rattle.plantext.specs.Spaces.{number-room, place-room, amount-room, key-room, line-room, separated, level, Put, AnswersLine, HeldLine, WritesHeld};
 use crate::refusal::LineRefusal;
 use crate::stage::END;
 use crate::stage::HIGH;
@@ -30,8 +29,8 @@ use lines::writing::write_bytes;
 use lines::writing::write_number;
 use lines::writing::write_signed;
 
-// Room for every line of a plan, with its line end.
-const LINE_SPACE: usize = 200;
+// Room for every line of a plan, with its line end; specs/Spaces.antt has the same number for the contracts.
+const LINE_ROOM: usize = 200;
 
 // Writes `text` at the place `at`, where it has room, and gives the place behind it.
 fn put_bytes(text: &[u8], out: &mut [u8], at: usize) -> usize
@@ -45,9 +44,9 @@ fn put_bytes(text: &[u8], out: &mut [u8], at: usize) -> usize
 }
 
 fn put_number(n: u64, out: &mut [u8], at: usize) -> usize
-    requires { ⌜ at + 20 ≤ length (now out) ⌝ }
+    requires { ⌜ at + number-room ≤ length (now out) ⌝ }
     ensures text { λ r. ⌜ Put (decimal n) at (now (out .entry)) (now (out .exit)) r ⌝ }
-    ensures short { λ r. ⌜ r ≤ at + 20 ⌝ }
+    ensures short { λ r. ⌜ r ≤ at + number-room ⌝ }
 {
     let Some(end) = write_number(n, out, at) else {
         unreachable()
@@ -56,9 +55,9 @@ fn put_number(n: u64, out: &mut [u8], at: usize) -> usize
 }
 
 fn put_signed(z: i64, out: &mut [u8], at: usize) -> usize
-    requires { ⌜ at + 20 ≤ length (now out) ⌝ }
+    requires { ⌜ at + number-room ≤ length (now out) ⌝ }
     ensures text { λ r. ⌜ Put (signed z) at (now (out .entry)) (now (out .exit)) r ⌝ }
-    ensures short { λ r. ⌜ r ≤ at + 20 ⌝ }
+    ensures short { λ r. ⌜ r ≤ at + number-room ⌝ }
 {
     let Some(end) = write_signed(z, out, at) else {
         unreachable()
@@ -78,13 +77,11 @@ fn place_of<T: Tariff>(tariff: &T, amount: T::Amount, i: usize) -> i64
 }
 
 // Writes place i of an amount, with a comma before it unless it is the first.
-fn put_place<T: Tariff>(tariff: &T, amount: T::Amount, i: usize, out: &mut [u8], at: usize) -> usize
-    requires inside { ⌜ i < scale (now tariff) .places ⌝ }
-    requires room { ⌜ at + 21 ≤ length (now out) ⌝ }
-    ensures text { λ r. ⌜ ((z : ℤ) → nth (row amount) i ≡ Some z → Put (separated i (signed z)) at (now (out .entry)) (now (out .exit)) r) ⌝ }
-    ensures short { λ r. ⌜ r ≤ at + 21 ⌝ }
+fn put_place(place: i64, i: usize, out: &mut [u8], at: usize) -> usize
+    requires { ⌜ at + place-room ≤ length (now out) ⌝ }
+    ensures text { λ r. ⌜ Put (separated i (signed place)) at (now (out .entry)) (now (out .exit)) r ⌝ }
+    ensures short { λ r. ⌜ r ≤ at + place-room ⌝ }
 {
-    let place = place_of(tariff, amount, i);
     if i == 0 {
         return put_signed(place, out, at);
     }
@@ -92,15 +89,17 @@ fn put_place<T: Tariff>(tariff: &T, amount: T::Amount, i: usize, out: &mut [u8],
     put_signed(place, out, start)
 }
 
-// Writes the places of an amount, with a comma between each two.
+// Writes the places of an amount, with a comma between each two. So each of them has 64 bits.
 fn put_amount<T: Tariff>(tariff: &T, amount: T::Amount, out: &mut [u8], at: usize) -> usize
-    requires { ⌜ at + 84 ≤ length (now out) ⌝ }
+    requires { ⌜ at + amount-room ≤ length (now out) ⌝ }
     ensures text { λ r. ⌜ Put (amountText (row amount)) at (now (out .entry)) (now (out .exit)) r ⌝ }
-    ensures short { λ r. ⌜ r ≤ at + 84 ⌝ }
+    ensures short { λ r. ⌜ r ≤ at + amount-room ⌝ }
+    ensures held { λ _. ⌜ Held (scale (now (tariff .entry)) .places) (row amount) ⌝ }
 {
     let mut end = at;
     for i in 0..tariff.place_count() {
-        end = put_place(tariff, amount, i, out, end);
+        let place = place_of(tariff, amount, i);
+        end = put_place(place, i, out, end);
     }
     end
 }
@@ -115,7 +114,7 @@ fn put_key(key: &[u8], out: &mut [u8]) -> usize
 }
 
 fn put_states(states: usize, out: &mut [u8]) -> usize
-    requires { ⌜ 200 ≤ length (now out) ⌝ }
+    requires { ⌜ line-room ≤ length (now out) ⌝ }
     ensures { λ r. ⌜ Put (states-line states) 0 (now (out .entry)) (now (out .exit)) r ⌝ }
 {
     let at = put_key(STATES, out);
@@ -124,9 +123,10 @@ fn put_states(states: usize, out: &mut [u8]) -> usize
 }
 
 fn put_claim<T: Tariff>(tariff: &T, key: &[u8], amount: T::Amount, out: &mut [u8]) -> usize
-    requires short { ⌜ length (now key) ≤ 10 ⌝ }
-    requires room { ⌜ 200 ≤ length (now out) ⌝ }
-    ensures { λ r. ⌜ Put (line (now (key .entry)) (amountText (row amount))) 0 (now (out .entry)) (now (out .exit)) r ⌝ }
+    requires short { ⌜ length (now key) ≤ key-room ⌝ }
+    requires room { ⌜ line-room ≤ length (now out) ⌝ }
+    ensures text { λ r. ⌜ Put (line (now (key .entry)) (amountText (row amount))) 0 (now (out .entry)) (now (out .exit)) r ⌝ }
+    ensures held { λ _. ⌜ Held (scale (now (tariff .entry)) .places) (row amount) ⌝ }
 {
     let at = put_key(key, out);
     let at = put_amount(tariff, amount, out, at);
@@ -140,8 +140,9 @@ fn put_row<T: Tariff>(
     value: T::Amount,
     out: &mut [u8],
 ) -> usize
-    requires { ⌜ 200 ≤ length (now out) ⌝ }
-    ensures { λ r. ⌜ Put (row-line state portfolio (row value)) 0 (now (out .entry)) (now (out .exit)) r ⌝ }
+    requires { ⌜ line-room ≤ length (now out) ⌝ }
+    ensures text { λ r. ⌜ Put (row-line state portfolio (row value)) 0 (now (out .entry)) (now (out .exit)) r ⌝ }
+    ensures held { λ _. ⌜ Held (scale (now (tariff .entry)) .places) (row value) ⌝ }
 {
     let at = put_key(ROW, out);
     let at = put_number(state as u64, out, at);
@@ -153,7 +154,7 @@ fn put_row<T: Tariff>(
 }
 
 fn put_end(out: &mut [u8]) -> usize
-    requires { ⌜ 200 ≤ length (now out) ⌝ }
+    requires { ⌜ line-room ≤ length (now out) ⌝ }
     ensures { λ r. ⌜ Put end-line 0 (now (out .entry)) (now (out .exit)) r ⌝ }
 {
     let at = put_key(END, out);
@@ -173,8 +174,9 @@ fn put_line<T: Tariff>(
 ) -> usize
     requires values { ⌜ Inside (length (now values)) stage ⌝ }
     requires policy { ⌜ Inside (length (now policy)) stage ⌝ }
-    requires room { ⌜ 200 ≤ length (now out) ⌝ }
-    ensures { λ r. ⌜ Put (stage-line (record { values = map row (now (values .entry)); policy = now (policy .entry); low = row low; high = row high }) stage) 0 (now (out .entry)) (now (out .exit)) r ⌝ }
+    requires room { ⌜ line-room ≤ length (now out) ⌝ }
+    ensures text { λ r. ⌜ Put (stage-line (record { values = map row (now (values .entry)); policy = now (policy .entry); low = row low; high = row high }) stage) 0 (now (out .entry)) (now (out .exit)) r ⌝ }
+    ensures held { λ _. ⌜ HeldLine (scale (now (tariff .entry)) .places) (record { values = map row (now (values .entry)); policy = now (policy .entry); low = row low; high = row high }) stage ⌝ }
 {
     match stage {
         Stage::States => put_states(values.len(), out),
@@ -193,7 +195,8 @@ fn is_level<A>(values: &[A], policy: &[u16]) -> bool
 }
 
 // Line j of a plan, from 0, with its line end, at the front of the space, and its length; absent past the last line.
-// The space behind the line is as it was, and all of it after an absence or a refusal.
+// The space behind the line is as it was, and all of it after an absence or a refusal. What is written has places of
+// 64 bits, so that it can be read back.
 pub fn plan_line<T: Tariff>(
     tariff: &T,
     values: &[T::Amount],
@@ -203,7 +206,8 @@ pub fn plan_line<T: Tariff>(
     j: usize,
     space: &mut [u8],
 ) -> Result<Option<usize>, LineRefusal>
-    ensures { λ r. ⌜ AnswersLine (record { values = map row (now (values .entry)); policy = now (policy .entry); low = row low; high = row high }) j (now (space .entry)) (now (space .exit)) r ⌝ }
+    ensures line { λ r. ⌜ AnswersLine (record { values = map row (now (values .entry)); policy = now (policy .entry); low = row low; high = row high }) j (now (space .entry)) (now (space .exit)) r ⌝ }
+    ensures held { λ r. ⌜ WritesHeld (scale (now (tariff .entry)) .places) (record { values = map row (now (values .entry)); policy = now (policy .entry); low = row low; high = row high }) j r ⌝ }
 {
     if !is_level(values, policy) {
         return Err(LineRefusal::WrongLength);
@@ -211,7 +215,7 @@ pub fn plan_line<T: Tariff>(
     let Some(stage) = Stage::at(values.len(), j) else {
         return Ok(None);
     };
-    let mut line = [0; LINE_SPACE];
+    let mut line = [0; LINE_ROOM];
     let length = put_line(tariff, values, policy, low, high, stage, &mut line);
     match write_bytes(&line[0..length], space, 0) {
         Some(end) => Ok(Some(end)),

@@ -62,3 +62,7 @@ key-law name r e k some = (
   (λ q. ⊎-elim (λ n. n ∙ ap name-of (sym e ∙ q)) (λ o. absurd (some (sym q ∙ e ∙ o))) (found-name name named-keys)),
   (λ n. e ∙ ap key-of n ∙ key-of-name k),
 )
+
+-- two keys of one name are one
+pub same-key : (a b : Key) → sameBytes (name-of a) (name-of b) ≡ true → a ≡ b
+same-key a b e = sym (key-of-name a) ∙ ap key-of (sameBytes-decides (name-of a) (name-of b) .0 e) ∙ key-of-name b

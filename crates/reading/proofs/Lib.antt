@@ -1,3 +1,4 @@
 pub mod KeyLaws
 pub mod ListLaws
 pub mod ValueLaws
+pub mod WrittenLaws

@@ -1,3 +1,4 @@
 pub mod Keys
 pub mod Rules
 pub mod Values
+pub mod Written

@@ -14,6 +14,8 @@ use Rattle.pairtext.specs.Readers.{fresh}
 use Rattle.pairtext.specs.Sound.{Sound}
 use Rattle.pairtext.specs.Steps.{pair-step}
 use Rattle.pairtext.specs.Texts.{Reading, refused-at, numbers-read, judged, read-from, read-pair}
+use Rattle.pairtext.proofs.PairTextLaw.{pair-text-law}
+use Rattle.pairtext.proofs.SampleLaws.{sample-read}
 use Rattle.pairtext.proofs.Soundness.{fresh-sound, step-sound}
 use Rattle.pairtext.proofs.TextLaws.{step-refused, step-made, goes-fault, goes-refused, goes-closed, goes-on, Goes, goes-at}
 use Rattle.pairtext.proofs.text.read_pair.Needs as need
@@ -34,10 +36,14 @@ returns-in-Fault c =
     let says : said (c .next-line-read .result .line) ≡ fault (c .in-Fault .fault) = ap said (c .in-Fault .is) in
     let line : fault (c .in-Fault .fault) ≡ lineAt text = sym says ∙ read .line in
     let g : read-pair (c .args .lines .now .rest .now) (c .args .lines .now .place) ≡ record { answer = refused-at (fault-rule (c .in-Fault .fault)) (place + 1); rest = text; place = place } = goes-fault (c .loop-name .reader) text place _ (c .in-Fault .fault) line (c .loop-name .inv .1) in
+    let answer = (λ i. refused-at (c .fault-rule-rule .ensures i) (read .place i)) ∙ sym (ap (λ (z : Reading). z .answer) g) in
+    let rest = read .rest ∙ ap (λ s. leftBy s text) (sym line) ∙ sym (ap (λ (z : Reading). z .rest) g) in
     record {
-      answer = (λ i. refused-at (c .fault-rule-rule .ensures i) (read .place i)) ∙ sym (ap (λ (z : Reading). z .answer) g);
-      rest = read .rest ∙ ap (λ s. leftBy s text) (sym line) ∙ sym (ap (λ (z : Reading). z .rest) g);
+      answer = answer;
+      rest = rest;
       place = read .count ∙ ap (λ s. place + taken s) says ∙ add-zero place ∙ sym (ap (λ (z : Reading). z .place) g);
+      law = pair-text-law (c .args .lines .now .rest .now) (c .args .lines .now .place) (Err (record { rule = c .fault-rule-rule .result; line = c .next-line-read .result .place })) (c .next-line-read .last .self .rest .now) answer rest;
+      sample = sample-read;
     }
 
 pub returns-in-Err : need.returns-in-Err
@@ -51,10 +57,14 @@ returns-in-Err c =
     let line : pair k v ≡ lineAt text = sym says ∙ read .line in
     let step : pair-step (c .loop-name .reader) (key-of k) v ≡ Err (c .in-Err .rule) = ap (λ key. pair-step (c .loop-name .reader) key v) (sym (c .key-of .ensures .value)) ∙ step-refused _ _ (c .in-Err .ensures tt .answer) in
     let g : read-pair (c .args .lines .now .rest .now) (c .args .lines .now .place) ≡ record { answer = refused-at (c .in-Err .rule) (place + 1); rest = restAt text; place = place + 1 } = goes-refused (c .loop-name .reader) text place _ k v line (c .in-Err .rule) step (c .loop-name .inv .1) in
+    let answer = ap (refused-at (c .in-Err .rule)) (read .place) ∙ sym (ap (λ (z : Reading). z .answer) g) in
+    let rest = read .rest ∙ sym (ap (λ (z : Reading). z .rest) g) in
     record {
-      answer = ap (refused-at (c .in-Err .rule)) (read .place) ∙ sym (ap (λ (z : Reading). z .answer) g);
-      rest = read .rest ∙ sym (ap (λ (z : Reading). z .rest) g);
+      answer = answer;
+      rest = rest;
       place = read .count ∙ ap (λ s. place + taken s) says ∙ sym (ap (λ (z : Reading). z .place) g);
+      law = pair-text-law (c .args .lines .now .rest .now) (c .args .lines .now .place) (Err (record { rule = c .in-Err .rule; line = c .next-line-read .result .place })) (c .next-line-read .last .self .rest .now) answer rest;
+      sample = sample-read;
     }
 
 pub close-requires : need.close-requires
@@ -74,10 +84,14 @@ returns-then-is-complete c =
     let line : pair k v ≡ lineAt text = sym says ∙ read .line in
     let step : pair-step (c .loop-name .reader) (key-of k) v ≡ Ok next = ap (λ key. pair-step (c .loop-name .reader) key v) (sym (c .key-of .ensures .value)) ∙ step-made _ (c .loop-name .reader) next _ (c .in-rest .ensures tt .answer) (c .in-rest .ensures tt .after) in
     let g : read-pair (c .args .lines .now .rest .now) (c .args .lines .now .place) ≡ record { answer = judged (numbers-read next) (place + 1); rest = restAt text; place = place + 1 } = goes-closed (c .loop-name .reader) text place _ k v line next step (sym (c .if-is-complete .ensures tt)) (c .loop-name .inv .1) in
+    let answer = c .close .ensures ∙ ap (judged (numbers-read next)) (read .place) ∙ sym (ap (λ (z : Reading). z .answer) g) in
+    let rest = read .rest ∙ sym (ap (λ (z : Reading). z .rest) g) in
     record {
-      answer = c .close .ensures ∙ ap (judged (numbers-read next)) (read .place) ∙ sym (ap (λ (z : Reading). z .answer) g);
-      rest = read .rest ∙ sym (ap (λ (z : Reading). z .rest) g);
+      answer = answer;
+      rest = rest;
       place = read .count ∙ ap (λ s. place + taken s) says ∙ sym (ap (λ (z : Reading). z .place) g);
+      law = pair-text-law (c .args .lines .now .rest .now) (c .args .lines .now .place) (c .close .result) (c .next-line-read .last .self .rest .now) answer rest;
+      sample = sample-read;
     }
 
 pub loop-name-less : need.loop-name-less

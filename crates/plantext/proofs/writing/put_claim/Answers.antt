@@ -18,4 +18,4 @@ put-bytes-requires g c κs =
     omega (arith, length-append (c .args .key .now) (equalsSign ∷ []), c .pre .short, c .pre .room, c .put-amount-at .ensures .short)
 
 pub returns : need.returns
-returns g c = put-line (c .args .key .now) (c .put-key-at .ensures) (c .put-amount-at .ensures .text) (c .put-bytes .ensures)
+returns g c = record { text = put-line (c .args .key .now) (c .put-key-at .ensures) (c .put-amount-at .ensures .text) (c .put-bytes .ensures); held = c .put-amount-at .ensures .held }

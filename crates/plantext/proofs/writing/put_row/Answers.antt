@@ -13,4 +13,7 @@ returns g c =
     let lawful = g .T·Tariff·met .lawful (c .args .tariff .now) in
     let some : 0 < length u = omega (arith, lawful .some-places) in
     let pieces = put-more (put-more (put-more (put-more (c .put-number-at .ensures .text) (c .put-bytes-at .ensures)) (c .put-number-at-2 .ensures .text)) (c .put-bytes-at-2 .ensures)) (c .put-amount-at .ensures .text) in
-    put-line (codes "row") (c .put-key-at .ensures) (put-as (row-value (decimal (c .args .state)) (decimal (c .args .portfolio)) u some) pieces) (c .put-bytes .ensures)
+    record {
+      text = put-line (codes "row") (c .put-key-at .ensures) (put-as (row-value (decimal (c .args .state)) (decimal (c .args .portfolio)) u some) pieces) (c .put-bytes .ensures);
+      held = c .put-amount-at .ensures .held;
+    }
