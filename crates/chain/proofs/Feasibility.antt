@@ -2,7 +2,7 @@
 use Prim.Native.Nat.{ℕ, _+_, _-_, _≤_, _<_}
 use Rattle.chain.proofs.Renewals.{everything-holds, everything-renews, failure-decides, worn-decides}
 use Rattle.chain.proofs.Sums.{over-alike}
-use Rattle.chain.specs.Chains.{Feasible, HasOrder, Renewable, RenewableBy, Unrenewable, chain-feasible, hazard-sum, hazards-at, least-order, survives}
+use Rattle.chain.specs.Chains.{Feasible, HasOrder, Renewable, RenewableBy, Survives, Unrenewable, chain-feasible, hazard-sum, hazards-at, least-order, survival, survives}
 use Rattle.chain.specs.Over.{entry}
 use Rattle.chain.specs.Parts.{arcs-of, hazard}
 use Rattle.chain.specs.Portfolios.{all-portfolios, everything, failure-renewed, worn-renewed}
@@ -12,6 +12,7 @@ use Rattle.interface.specs.Limits.{whole}
 use Rattle.std.proofs.shelf.Bits.{mod-below, pow-pos}
 use Rattle.std.proofs.shelf.Lists.{getD-replicate}
 use Rattle.std.proofs.shelf.Tests.{and-from, and-parts, cond-true, le-leb, leb-true, lt-ltb, ltb-true}
+use Rattle.std.proofs.shelf.Ways.{decides-and}
 use Rattle.std.specs.Options.{isSome}
 use Rattle.std.specs.Orderings.{Decides, When}
 use Rattle.std.specs.declared.option.Option.the-variants.{None, Some}
@@ -32,11 +33,8 @@ order-decides : (n : ChainNumbers) (x : ℕ) (r : Option ℕ) → Least (arcs-of
 order-decides n x None l = (λ e. let z : _≡_ {A = ℕ} 0 1 = cc in absurd (omega arith), λ h. absurd (∥∥₁-elim h ⊥-prop (λ o. l (o .0) (o .1))))
 order-decides n x (Some c) l = (λ _. ∥∥₁-map (l .0) (λ o. (c, o)), λ _. refl)
 
-pub survives-decides : (n : ChainNumbers) (h : ℕ) → Decides (survives n h) (n .threshold + h ≤ whole)
-survives-decides n h = (
-  λ t. let both = and-parts (leb h whole) (leb (n .threshold) (whole - h)) t in omega (arith, leb-true h whole (both .0), leb-true (n .threshold) (whole - h) (both .1)),
-  λ l. and-from (leb h whole) (leb (n .threshold) (whole - h)) (le-leb h whole (omega arith)) (le-leb (n .threshold) (whole - h) (omega arith)),
-)
+pub survives-decides : (n : ChainNumbers) (h : ℕ) → Decides (survives n h) (Survives n h)
+survives-decides n h = decides-and (leb h whole) (leb (n .threshold) (survival h)) (leb-true h whole, le-leb h whole) (leb-true (n .threshold) (survival h), le-leb (n .threshold) (survival h))
 
 pub few-portfolios : (n : ChainNumbers) → n .count ≤ max-parts → all-portfolios n ≤ portfolios
 few-portfolios n few = pow-mono few

@@ -56,7 +56,7 @@ always s inside = record {
   failure = λ some. everything-holds example (failed-in example s) some (omega (arith, mod-below s 3 (omega arith)));
   worn = λ i some most _. everything-holds example i some most;
   order = ∥∥₁-map (figures .row-both .0) (λ o. (891, o));
-  survives = lit≤ tt;
+  survives = (lit≤ tt, lit≤ tt);
 }
 
 pub some-chain : Some-chain

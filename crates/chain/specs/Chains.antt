@@ -27,13 +27,17 @@ hazards-at n start = over-parts (λ i. hazard n i (start i)) (n .count)
 abbrev pub hazard-sum : ChainNumbers → ℕ → ℕ → ℕ
 hazard-sum n s x = hazards-at n (start-age n s x)
 
--- The ten-thousandths with which no part fails.
-abbrev pub survival : ChainNumbers → ℕ → ℕ → ℕ
-survival n s x = whole - hazard-sum n s x
+-- The ten-thousandths with which no part fails, where the hazards add up to this number.
+abbrev pub survival : ℕ → ℕ
+survival hazards = whole - hazards
 
--- A sum of hazards above the whole is below every threshold.
+-- Whether the survival is at least the threshold. A sum of hazards above the whole is below every threshold.
 abbrev pub survives : ChainNumbers → ℕ → Bool
-survives n hazards = leb hazards whole && leb (n .threshold) (whole - hazards)
+survives n hazards = leb hazards whole && leb (n .threshold) (survival hazards)
+
+-- The same as a fact.
+abbrev pub Survives : ChainNumbers → ℕ → Type 0
+Survives n hazards = (hazards ≤ whole) × (n .threshold ≤ survival hazards)
 
 abbrev pub least-order : List (Option ℕ) → ℕ → Option ℕ
 least-order table x = getD table x None
@@ -41,7 +45,7 @@ least-order table x = getD table x None
 abbrev pub chain-feasible : ChainNumbers → List (Option ℕ) → ℕ → ℕ → Bool
 chain-feasible n table s x = (ltb s (all-states n) && ltb x (all-portfolios n)) && ((failure-renewed n s x && worn-renewed n s x) && (isSome (least-order table x) && survives n (hazard-sum n s x)))
 
--- The ages at which the parts start the window: there for a feasible portfolio and for no other.
+-- The ages at which the parts start the window; there are none exactly when the pair is not feasible.
 abbrev pub Starts : ChainNumbers → List (Option ℕ) → ℕ → ℕ → Option (List ℕ) → Type 0
 Starts n table s x None = chain-feasible n table s x ≡ false
 Starts n table s x (Some starts) = (chain-feasible n table s x ≡ true) × Entries (start-age n s x) (n .count) starts
@@ -64,7 +68,7 @@ chain-bill n table s x = record { seconds = dark-seconds n (failed-in n s); cent
 abbrev pub outcome-after : ChainNumbers → (ℕ → ℕ) → ℕ → Outcome
 outcome-after n start k = record {
   next = state-with n (λ i. start i + 1) k;
-  weight = cond (eqb k 0) (whole - hazards-at n start) (hazard n k (start k));
+  weight = cond (eqb k 0) (survival (hazards-at n start)) (hazard n k (start k));
 }
 
 abbrev pub chain-outcomes : ChainNumbers → ℕ → ℕ → List Outcome
@@ -90,7 +94,7 @@ pub record Feasible (n : ChainNumbers) (s x : ℕ) : Type 0 where
   pub failure : Failure-renewed n s x
   pub worn : Worn-renewed n s x
   pub order : HasOrder n x
-  pub survives : n .threshold + hazard-sum n s x ≤ whole
+  pub survives : Survives n (hazard-sum n s x)
 
 -- All parts may be renewed in every state.
 abbrev pub Renewable : ChainNumbers → Type 0

@@ -107,7 +107,7 @@ impl Chain {
         })
     }
 
-    // The ages at which the parts start the window: there for a feasible portfolio and for no other.
+    // The ages at which the parts start the window; there are none exactly when the pair is not feasible.
     fn starts(&self, state: usize, portfolio: usize) -> Option<[usize; MAX_PARTS]>
         ensures { λ r. ⌜ Starts (now (self .entry) .numbers) (now (self .entry) .least) state portfolio r ⌝ }
     {

@@ -1,17 +1,16 @@
 -- A text that is accepted begins with the text of the pair that was read.
 use mathlib.Core.Path.{_≡_, refl, sym, ap, subst, _∙_}
 use mathlib.Core.Bool.{Bool, true, false, cond}
-use mathlib.Core.List.{List, [], _∷_, _++_}
+use mathlib.Core.List.{List, _++_}
 use Prim.Native.Nat.{ℕ, zero, suc, _+_}
 use native.Mathlib.Omega.{arith}
 use lib.ListN.{length, getD}
-use Rattle.std.specs.declared.result.Result.{Result}
 use Rattle.std.specs.declared.result.Result.the-variants.{Ok, Err}
 use Rattle.std.proofs.shelf.Lists.{append-assoc}
 use Rattle.lines.specs.Line.{Said, pair, fault, lineAt, restAt}
 use Rattle.reading.specs.Keys.{name-of, key-of}
 use Rattle.reading.specs.Written.{line-of}
-use Rattle.reading.specs.declared.keys.Key.the-variants.{Kind, Threshold, Setup, Inspect, Unit as UnitKey, Grades, Row, Planned, Forced, Dark, End, Other as NoKey}
+use Rattle.reading.specs.declared.keys.Key.the-variants.{Other as NoKey}
 use Rattle.reading.specs.declared.rules.Rule.the-variants.{NoFullRenewal}
 use Rattle.reading.proofs.KeyLaws.{key-law, same-key}
 use Rattle.reading.proofs.WrittenLaws.{read-line}
@@ -19,7 +18,6 @@ use Rattle.pair.specs.declared.numbers.PairNumbers.{PairNumbers}
 use Rattle.pairtext.specs.declared.reader.PairReader.{PairReader}
 use Rattle.pairtext.specs.declared.stage.Stage.{Stage}
 use Rattle.pairtext.specs.declared.stage.Stage.the-variants.{KindDue, ThresholdDue, SetupDue, InspectDue, UnitDue, GradesDue, RowDue, PlannedDue, ForcedDue, DarkDue, EndDue, Complete}
-use Rattle.pairtext.specs.declared.stage.UnitName.the-variants.{Two}
 use Rattle.pairtext.specs.Readers.{unit-index, no-unit, fresh}
 use Rattle.pairtext.specs.Sound.{WhollyGraded, Other, Here, Sound}
 use Rattle.pairtext.specs.Steps.{Step, due, is-due, take-at, pair-step}

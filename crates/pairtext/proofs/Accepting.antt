@@ -1,46 +1,46 @@
 -- The text of a pair is accepted, and gives its numbers back.
 use mathlib.Core.Path.{_≡_, refl, sym, ap, subst, _∙_}
-use mathlib.Core.Bool.{Bool, true, false, cond}
+use mathlib.Core.Bool.{true, false}
 use mathlib.Core.List.{List, [], _∷_, _++_, map}
 use mathlib.Core.Logic.{⊎-elim}
 use Prim.Native.Nat.{ℕ, zero, suc, _+_, _-_, _^_, _≤_, _<_}
 use native.Mathlib.Omega.{arith}
 use lib.Chars.{codes}
-use lib.Dec.{eqb, ltb, leb}
-use lib.ListN.{length, getD, set, take, drop}
+use lib.Dec.{ltb}
+use lib.ListN.{length, getD, take, drop}
 use Rattle.std.specs.declared.option.Option.{Option}
 use Rattle.std.specs.declared.option.Option.the-variants.{Some}
 use Rattle.std.specs.declared.result.Result.the-variants.{Ok}
 use Rattle.std.specs.Written.{decimal}
 use Rattle.std.specs.shelf.Lists.{All}
-use Rattle.std.proofs.shelf.Lists.{append-assoc, at-drop-more, at-drop-all, getD-append-left, getD-map, getD-take, length-append, length-drop, length-map, length-take, length-take-le, take-all}
+use Rattle.std.proofs.shelf.Lists.{append-assoc, at-drop-more, at-drop-all, getD-append-left, getD-map, getD-take, length-append, length-drop, length-map, length-take-le, take-all}
 use Rattle.std.proofs.shelf.Tests.{cases-lt, leb-true, ltb-true, eq-eqb, ne-eqb, cond-true, cond-false}
 use Rattle.lines.specs.Fields.{joined}
-use Rattle.lines.specs.Line.{Printable, lineAt, restAt}
+use Rattle.lines.specs.Line.{Printable, restAt}
 use Rattle.lines.proofs.DigitLaws.{decimal-printable}
-use Rattle.reading.specs.Keys.{name-of, key-of}
+use Rattle.reading.specs.Keys.{name-of}
 use Rattle.reading.specs.Values.{number-between}
 use Rattle.reading.specs.Written.{line-of, number-line, list-line}
 use Rattle.reading.specs.declared.keys.Key.{Key}
 use Rattle.reading.specs.declared.keys.Key.the-variants.{Kind, Threshold, Setup, Inspect, Unit as UnitKey, Grades, Row, Planned, Forced, Dark, End, Other as NoKey}
 use Rattle.reading.proofs.KeyLaws.{key-of-name}
 use Rattle.reading.proofs.ValueLaws.{between-law}
-use Rattle.reading.proofs.WrittenLaws.{widest-value, all-plain, plain-bytes, written-line, written-rest, number-short}
-use Rattle.pair.specs.Limits.{hundred, least-grades, most-grades, most-threshold, most-charge, most-dark}
-use Rattle.pair.specs.Pairs.{LawfulNumbers, Renewable}
+use Rattle.reading.proofs.WrittenLaws.{widest-value, plain-bytes, written-line, written-rest, number-short}
+use Rattle.pair.specs.Limits.{least-grades, most-grades, most-threshold, most-charge, most-dark}
+use Rattle.pair.specs.Pairs.{LawfulNumbers}
 use Rattle.pair.specs.Units.{LawfulUnit}
 use Rattle.pair.specs.declared.numbers.PairNumbers.{PairNumbers}
 use Rattle.pair.specs.declared.numbers.UnitNumbers.{UnitNumbers}
 use Rattle.pairtext.specs.declared.reader.PairReader.{PairReader}
 use Rattle.pairtext.specs.declared.stage.Stage.{Stage}
-use Rattle.pairtext.specs.declared.stage.Stage.the-variants.{KindDue, ThresholdDue, SetupDue, InspectDue, UnitDue, GradesDue, RowDue, PlannedDue, ForcedDue, DarkDue, EndDue, Complete}
+use Rattle.pairtext.specs.declared.stage.Stage.the-variants.{ThresholdDue, SetupDue, InspectDue, UnitDue, GradesDue, RowDue, PlannedDue, ForcedDue, DarkDue, EndDue, Complete}
 use Rattle.pairtext.specs.declared.stage.UnitName.{UnitName}
 use Rattle.pairtext.specs.declared.stage.UnitName.the-variants.{One, Two}
 use Rattle.pairtext.specs.Readers.{unit-number, blank-rows, blank-unit, fresh, with-grades, with-row, with-planned, with-forced, with-dark, at-stage, with-threshold, with-setup, with-inspect}
 use Rattle.pairtext.specs.Rows.{padded, row-of}
 use Rattle.pairtext.specs.Sound.{laid}
 use Rattle.pairtext.specs.Steps.{on, behind-row, behind-unit, pair-step}
-use Rattle.pairtext.specs.Texts.{Reading, complete, numbers-read, renewable, judged, read-pair}
+use Rattle.pairtext.specs.Texts.{Reading, complete, renewable, read-pair}
 use Rattle.pairtext.specs.Writing.{row-lines, unit-text, pair-text, ZeroBeyond, BeginsPair}
 use Rattle.pairtext.proofs.RowLaws.{RowLaw, laid-next, row-back, row-printable, row-short}
 use Rattle.pairtext.proofs.TextLaws.{renewable-first, Goes, goes-on, goes-closed, goes-at}

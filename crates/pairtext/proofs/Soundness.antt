@@ -1,15 +1,14 @@
 -- A step keeps a reader sound.
 use mathlib.Core.Path.{_≡_, refl, sym, ap, subst, _∙_}
 use mathlib.Core.Bool.{Bool, true, false, cond}
-use mathlib.Core.List.{List, [], _∷_}
-use mathlib.Core.Logic.{_⊎_, inl, inr, ⊎-elim, _≢_}
+use mathlib.Core.List.{List, []}
+use mathlib.Core.Logic.{⊎-elim, _≢_}
 use Prim.Native.Nat.{ℕ, zero, suc, _+_, _-_, _^_, _≤_, _<_}
 use native.Mathlib.Omega.{arith}
 use lib.Dec.{eqb}
 use lib.ListN.{length, getD, set, take}
 use Rattle.std.specs.declared.option.Option.{Option}
 use Rattle.std.specs.declared.option.Option.the-variants.{Some, None}
-use Rattle.std.specs.declared.result.Result.{Result}
 use Rattle.std.specs.declared.result.Result.the-variants.{Ok, Err}
 use Rattle.std.specs.shelf.Text.{sameBytes}
 use Rattle.std.proofs.shelf.Lists.{length-set, getD-set-same, getD-set-other}
@@ -21,18 +20,17 @@ use Rattle.reading.proofs.ValueLaws.{between-law}
 use Rattle.pair.specs.Limits.{least-grades, most-grades, most-threshold, most-charge, most-dark}
 use Rattle.pair.specs.Pairs.{LawfulNumbers}
 use Rattle.pair.specs.Units.{LawfulRow, LawfulUnit, LawfulCharges}
-use Rattle.pair.specs.declared.numbers.PairNumbers.{PairNumbers}
 use Rattle.pair.specs.declared.numbers.UnitNumbers.{UnitNumbers}
 use Rattle.pairtext.specs.declared.reader.PairReader.{PairReader}
 use Rattle.pairtext.specs.declared.stage.Stage.{Stage}
 use Rattle.pairtext.specs.declared.stage.Stage.the-variants.{KindDue, ThresholdDue, SetupDue, InspectDue, UnitDue, GradesDue, RowDue, PlannedDue, ForcedDue, DarkDue, EndDue, Complete}
 use Rattle.pairtext.specs.declared.stage.UnitName.{UnitName}
 use Rattle.pairtext.specs.declared.stage.UnitName.the-variants.{One, Two}
-use Rattle.pairtext.specs.Readers.{unit-index, no-unit, opened-unit, fresh, with-grades, with-row, with-planned, with-forced, with-dark, at-stage, with-threshold, with-setup, with-inspect, with-unit, with-opened, at-row}
+use Rattle.pairtext.specs.Readers.{unit-index, no-unit, opened-unit, fresh, with-grades, with-row, with-planned, with-forced, with-dark, at-stage, with-threshold, with-setup, with-inspect, with-unit, at-row}
 use Rattle.pairtext.specs.Rows.{padded, row-of}
-use Rattle.pairtext.specs.Sound.{Graded, WhollyGraded, laid, Kept, Other, Here, Sound}
+use Rattle.pairtext.specs.Sound.{Graded, WhollyGraded, Kept, Other, Here, Sound}
 use Rattle.pairtext.specs.Texts.{numbers-read}
-use Rattle.pairtext.specs.Steps.{Step, on, on-word, behind-row, behind-unit, take-row, take-at, pair-step, is-due}
+use Rattle.pairtext.specs.Steps.{Step, on, on-word, behind-unit, take-at, pair-step, is-due}
 use Rattle.pairtext.proofs.RowLaws.{RowLaw, read-row-law, read-row-form, laid-more}
 
 -- a step that was made

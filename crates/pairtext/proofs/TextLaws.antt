@@ -1,15 +1,14 @@
 -- The loop over the lines of a pair's text.
 use mathlib.Core.Path.{_≡_, refl, sym, ap, subst, _∙_}
-use mathlib.Core.Bool.{Bool, true, false, cond}
+use mathlib.Core.Bool.{true, false}
 use mathlib.Core.List.{List}
-use Prim.Native.Nat.{ℕ, zero, suc, _+_, _<_, _≤_}
+use Prim.Native.Nat.{ℕ, zero, suc, _+_, _<_}
 use native.Mathlib.Nat.{mul-pos}
 use native.Mathlib.Omega.{arith}
 use lib.ListN.{length}
-use Rattle.std.specs.declared.result.Result.{Result}
 use Rattle.std.specs.declared.result.Result.the-variants.{Ok, Err}
 use Rattle.std.proofs.shelf.Tests.{cond-true, cond-false, true≢false}
-use Rattle.lines.specs.Line.{Said, pair, fault, lineAt, restAt}
+use Rattle.lines.specs.Line.{pair, fault, lineAt, restAt}
 use Rattle.lines.proofs.LineLaws.{rest-shorter}
 use Rattle.reading.specs.Keys.{key-of}
 use Rattle.reading.specs.Rules.{fault-rule}

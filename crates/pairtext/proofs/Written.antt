@@ -2,19 +2,19 @@
 use mathlib.Core.Path.{_≡_, refl, sym, ap, subst, _∙_}
 use mathlib.Core.Bool.{Bool, true, false, cond}
 use mathlib.Core.List.{List, [], _∷_, _++_, map}
-use Prim.Native.Nat.{ℕ, zero, suc, _+_, _-_, _^_, _≤_, _<_}
+use Prim.Native.Nat.{ℕ, _+_, _-_, _^_, _<_}
 use native.Mathlib.Omega.{arith}
 use lib.Chars.{codes}
 use lib.Dec.{eqb}
 use lib.ListN.{length, getD, set, take, drop}
 use Rattle.std.specs.declared.option.Option.the-variants.{Some}
-use Rattle.std.specs.declared.result.Result.the-variants.{Ok, Err}
+use Rattle.std.specs.declared.result.Result.the-variants.{Ok}
 use Rattle.std.specs.Written.{decimal}
 use Rattle.std.proofs.shelf.Equals.{sameBytes-decides}
 use Rattle.std.proofs.shelf.Lists.{append-assoc, append-nil, take-at as front-at, take-more-set, getD-set-other}
 use Rattle.std.proofs.shelf.Tests.{eqb-true}
 use Rattle.lines.specs.Fields.{joined}
-use Rattle.reading.specs.Values.{number-between, list-of}
+use Rattle.reading.specs.Values.{number-between}
 use Rattle.reading.specs.Written.{line-of, number-line, list-line}
 use Rattle.reading.specs.declared.keys.Key.{Key}
 use Rattle.reading.specs.declared.keys.Key.the-variants.{Kind, Threshold, Setup, Inspect, Unit as UnitKey, Grades, Row, Planned, Forced, Dark, End}
@@ -26,10 +26,10 @@ use Rattle.pairtext.specs.declared.stage.Stage.{Stage}
 use Rattle.pairtext.specs.declared.stage.Stage.the-variants.{KindDue, ThresholdDue, SetupDue, InspectDue, UnitDue, GradesDue, RowDue, PlannedDue, ForcedDue, DarkDue, EndDue, Complete}
 use Rattle.pairtext.specs.declared.stage.UnitName.{UnitName}
 use Rattle.pairtext.specs.declared.stage.UnitName.the-variants.{One, Two}
-use Rattle.pairtext.specs.Readers.{unit-number, unit-index, blank-row, no-unit, opened-unit, with-grades, with-row, with-planned, with-forced, with-dark, at-stage, with-threshold, with-setup, with-inspect, with-unit, with-opened, at-row}
-use Rattle.pairtext.specs.Rows.{padded, row-of}
+use Rattle.pairtext.specs.Readers.{unit-number, unit-index, blank-row, no-unit, opened-unit, with-grades, with-row, with-planned, with-forced, with-dark, at-stage, with-unit, at-row}
+use Rattle.pairtext.specs.Rows.{row-of}
 use Rattle.pairtext.specs.Sound.{Here, Sound}
-use Rattle.pairtext.specs.Steps.{on, behind-unit, due, take-at}
+use Rattle.pairtext.specs.Steps.{behind-unit, due, take-at}
 use Rattle.pairtext.specs.Texts.{numbers-read}
 use Rattle.pairtext.specs.Writing.{row-lines, unit-text, pair-text}
 use Rattle.pairtext.proofs.RowLaws.{row-read}

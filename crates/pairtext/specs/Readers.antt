@@ -6,7 +6,7 @@ use Rattle.pair.specs.Limits.{most-grades}
 use Rattle.pair.specs.declared.numbers.UnitNumbers.{UnitNumbers}
 use Rattle.pairtext.specs.declared.reader.PairReader.{PairReader}
 use Rattle.pairtext.specs.declared.stage.Stage.{Stage}
-use Rattle.pairtext.specs.declared.stage.Stage.the-variants.{KindDue, ThresholdDue, SetupDue, InspectDue, UnitDue, GradesDue, RowDue, PlannedDue, ForcedDue, DarkDue, EndDue, Complete}
+use Rattle.pairtext.specs.declared.stage.Stage.the-variants.{KindDue}
 use Rattle.pairtext.specs.declared.stage.UnitName.{UnitName}
 use Rattle.pairtext.specs.declared.stage.UnitName.the-variants.{One, Two}
 

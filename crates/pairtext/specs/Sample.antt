@@ -9,7 +9,6 @@ use Rattle.std.specs.declared.result.Result.the-variants.{Ok}
 use Rattle.lines.specs.Line.{lineEnd}
 use Rattle.reading.specs.declared.rules.Rule.the-variants.{NoFullRenewal}
 use Rattle.pair.specs.declared.numbers.PairNumbers.{PairNumbers}
-use Rattle.pair.specs.declared.numbers.UnitNumbers.{UnitNumbers}
 use Rattle.pairtext.specs.Readers.{blank-row}
 use Rattle.pairtext.specs.Texts.{refused-at, read-pair}
 

@@ -1,16 +1,15 @@
 -- The text of a pair, as it is written.
 use mathlib.Core.Path.{_≡_}
-use mathlib.Core.List.{List, [], _∷_, _++_, map}
+use mathlib.Core.List.{List, [], _∷_, _++_}
 use Prim.Native.Nat.{ℕ, _-_}
 use lib.Chars.{codes}
-use lib.ListN.{take, drop, replicate}
+use lib.ListN.{take}
 use Rattle.std.specs.declared.result.Result.{Result}
 use Rattle.std.specs.declared.result.Result.the-variants.{Ok}
 use Rattle.lines.specs.Exactly.{Iff}
 use Rattle.reading.specs.Written.{line-of, number-line, list-line}
 use Rattle.reading.specs.declared.keys.Key.the-variants.{Kind, Threshold, Setup, Inspect, Unit as UnitKey, Grades, Row, Planned, Forced, Dark, End}
 use Rattle.reading.specs.declared.rules.ReadRefusal.{ReadRefusal}
-use Rattle.pair.specs.Limits.{most-grades}
 use Rattle.pair.specs.Pairs.{LawfulNumbers, Renewable}
 use Rattle.pair.specs.declared.numbers.PairNumbers.{PairNumbers}
 use Rattle.pair.specs.declared.numbers.UnitNumbers.{UnitNumbers}

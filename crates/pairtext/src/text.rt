@@ -92,6 +92,7 @@ pub fn read_pair_into(plant: &mut Pair, lines: &mut Lines) -> Result<(), ReadRef
     ensures plant { λ _. ⌜ PlantAfter (read-pair (now (now (lines .entry) .rest)) (now (lines .entry) .place) .answer) (now (plant .entry)) (now (plant .exit)) ⌝ }
     ensures rest { λ _. ⌜ now (now (lines .exit) .rest) ≡ read-pair (now (now (lines .entry) .rest)) (now (lines .entry) .place) .rest ⌝ }
     ensures place { λ _. ⌜ now (lines .exit) .place ≡ read-pair (now (now (lines .entry) .rest)) (now (lines .entry) .place) .place ⌝ }
+    ensures law { λ _. ⌜ ReadsPair (now (now (lines .entry) .rest)) (read-pair (now (now (lines .entry) .rest)) (now (lines .entry) .place) .answer) (now (now (lines .exit) .rest)) ⌝ }
 {
     let read = read_pair(lines)?;
     *plant = read;

@@ -1,16 +1,15 @@
-use mathlib.Core.Path.{_≡_, refl, sym, ap, subst, _∙_}
+use mathlib.Core.Path.{_≡_, sym, ap, subst, _∙_}
 use mathlib.Core.List.{List}
 use Prim.Native.Nat.{ℕ, suc, _+_, _<_}
 use native.Mathlib.Nat.{add-zero}
 use native.Mathlib.Omega.{arith}
 use lib.ListN.{length}
 use Rattle.std.specs.declared.result.Result.the-variants.{Ok, Err}
-use Rattle.lines.specs.Line.{Said, pair, fault, said, lineAt, leftBy, restAt, taken}
+use Rattle.lines.specs.Line.{pair, fault, said, lineAt, leftBy, restAt, taken}
 use Rattle.lines.proofs.LineLaws.{rest-shorter}
 use Rattle.reading.specs.Keys.{key-of}
 use Rattle.reading.specs.Rules.{fault-rule}
 use Rattle.pairtext.specs.declared.reader.PairReader.{PairReader}
-use Rattle.pairtext.specs.Readers.{fresh}
 use Rattle.pairtext.specs.Sound.{Sound}
 use Rattle.pairtext.specs.Steps.{pair-step}
 use Rattle.pairtext.specs.Texts.{Reading, refused-at, numbers-read, judged, read-from, read-pair}

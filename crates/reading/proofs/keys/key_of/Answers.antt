@@ -1,8 +1,6 @@
 use mathlib.Core.Path.{_≡_, sym, _∙_}
-use lib.ListN.{getD}
 use Rattle.std.proofs.shelf.Lists.{at-drop-all}
 use Rattle.reading.specs.Keys.{first-named, named-keys, key-of}
-use Rattle.reading.specs.declared.keys.Key.{Key}
 use Rattle.reading.specs.declared.keys.Key.the-variants.{Other}
 use Rattle.reading.proofs.KeyLaws.{named-here, named-later, key-law}
 use Rattle.reading.proofs.keys.key_of.Needs as need

@@ -1,9 +1,9 @@
 use mathlib.Core.Path.{_≡_, sym, ap, subst, _∙_}
 use Rattle.std.specs.declared.result.Result.the-variants.{Ok}
 use Rattle.std.proofs.shelf.Tests.{cond-true}
-use Rattle.pair.specs.Pairs.{LawfulNumbers, Renewable}
+use Rattle.pair.specs.Pairs.{LawfulNumbers}
 use Rattle.pair.specs.Refusals.{Refused}
-use Rattle.pairtext.specs.Texts.{numbers-read, renewable, judged}
+use Rattle.pairtext.specs.Texts.{renewable, judged}
 use Rattle.pairtext.proofs.Soundness.{complete-lawful}
 use Rattle.pairtext.proofs.TextLaws.{complete-is, renewable-first}
 use Rattle.pairtext.proofs.reader.PairReader.close.Needs as need
