@@ -1,4 +1,6 @@
 // Certificates: the check that accepts exactly the sound ones, and the recipe that makes them.
+#![tactic(auto)]
+
 pub mod check;
 pub mod finding;
 pub mod recipe;

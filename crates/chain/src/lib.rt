@@ -1,4 +1,6 @@
 // The chain: a plant of parts in series, each of which has an age, and one of which may have failed.
+#![tactic(auto)]
+
 mod charges;
 pub mod limits;
 pub mod numbers;

@@ -1,4 +1,6 @@
 // The reader of a chain's text.
+#![tactic(auto)]
+
 pub mod read;
 pub mod reader;
 mod steps;

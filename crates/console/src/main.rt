@@ -1,5 +1,7 @@
 // The console: reads a plant, a tariff and a number of sweeps from standard input, and writes the plan, or one line
 // with the number and the place of a refusal. What is meant for people goes to standard error.
+#![tactic(auto)]
+
 use anyhow::anyhow;
 use reading::rules::Rule;
 use reply::answer::{Refusal, Reply};

@@ -1,4 +1,6 @@
 // The worked figures, established of the definitions.
+#![tactic(auto)]
+
 ghost use Rattle.std.specs.Prelude.{◌≡◌};
 ghost use Rattle.figures.specs.Starred.{Starred};
 

@@ -1,4 +1,6 @@
 // A kind of plant and a tariff as somebody might bring them who has seen nothing but the two interfaces.
+#![tactic(auto)]
+
 pub mod basket;
 pub mod lamp;
 

@@ -1,4 +1,6 @@
 // The pair: a plant of two units, each with grades, the last of which is failed.
+#![tactic(auto)]
+
 pub mod limits;
 pub mod numbers;
 pub mod plant;

@@ -1,4 +1,6 @@
 // Plans as text: a plan's lines are written one by one, and a whole plan is read.
+#![tactic(auto)]
+
 pub mod claims;
 pub mod reading;
 pub mod refusal;

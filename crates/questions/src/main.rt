@@ -1,4 +1,6 @@
 // Asks a plant every question, in range and just beyond, and writes the answers: for comparison with another program.
+#![tactic(auto)]
+
 use chaintext::read::read_chain;
 use interface::plant::Plant;
 use lines::reading::Lines;

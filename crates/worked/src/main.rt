@@ -1,5 +1,7 @@
 // The worked figures that are not theorems, each as a request with the output that it has to have. Writes a line for each;
 // ends with status 1 if one differs.
+#![tactic(auto)]
+
 mod cases;
 mod requests;
 

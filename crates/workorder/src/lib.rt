@@ -3,6 +3,8 @@
 // Parts are numbered from 1, and node 0 is the rack door. A portfolio is a set of parts, by a number in which part i
 // counts 2^(i - 1). A work order does every part of a portfolio exactly once, one after another. It comes to each by
 // an arc, which starts at the door or at a part that is done by then, and costs what its arcs cost together.
+#![tactic(auto)]
+
 ghost use Rattle.std.specs.Prelude.{◌≡◌, ℕ, ◌*◌, ◌^◌, ◌<◌, [], ◌∷◌, set, replicate, Some, None, Decides, Option, slice_index_or, slice_set};
 ghost use Rattle.workorder.specs.Figures.{Figures, arc as the_arc, circle as the-circle, closed as the-closed, row as the_row};
 ghost use Rattle.workorder.specs.Orders.{AtMost, Holds, Least, LeastOf, LeastTable, NoneDearer, max_parts, portfolios};

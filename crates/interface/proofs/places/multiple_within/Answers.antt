@@ -5,6 +5,6 @@ use Rattle.interface.proofs.places.multiple_within.Goals as goal
 
 pub returns : goal.returns
 returns c = record {
-  test = c.factor-within.ensures;
-  part = λ k below e. part_within c.args.factor k c.args.reach most_factor most_reach below (sym c.factor-within.ensures ∙ e);
+  test = c.factor_within.ensures;
+  part = λ k below e. part_within c.args.factor k c.args.reach most_factor most_reach below (sym c.factor_within.ensures ∙ e);
 }
