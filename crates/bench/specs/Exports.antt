@@ -8,7 +8,7 @@ use Rattle.tariffs.specs.Priced.{most_rate, priced_scale}
 use Rattle.tariffs.specs.Refusals.{number_of as tariff_number}
 use Rattle.tariffs.specs.declared.refusal.Unpriced.TheVariants.{RateOutOfRange}
 use Rattle.chain.specs.declared.plant.Chain.{Chain}
-use Rattle.chaintext.specs.Answers.{ReadsChain}
+use Rattle.chaintext.specs.Counted.{CountedChain}
 use Rattle.pair.specs.Pairs.{pair_model}
 use Rattle.pair.specs.declared.numbers.PairNumbers.{PairNumbers}
 use Rattle.pairtext.specs.Texts.{read_pair}
@@ -26,7 +26,7 @@ Told (Err n) before after r = (r ≡ n) × (after ≡ before)
 
 -- what reading a chain from a text answers
 abbrev pub ChainIn : List ℕ → Result Chain ReadRefusal → Type 0
-ChainIn text r = (rest : List ℕ) × ((lines : ℕ) × ReadsChain text 0 rest lines r)
+ChainIn text r = (rest : List ℕ) × ((lines : ℕ) × CountedChain text 0 rest lines r)
 
 -- a text is refused with this number
 abbrev pub ChainRefused : List ℕ → ℕ → Type 0

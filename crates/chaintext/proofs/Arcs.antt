@@ -20,7 +20,7 @@ use Rattle.chain.specs.declared.numbers.Part.{Part}
 use Rattle.chaintext.specs.declared.reader.ChainReader.{ChainReader}
 use Rattle.chaintext.specs.declared.reader.Head.{Head}
 use Rattle.chaintext.specs.declared.reader.Stage.TheVariants as stage
-use Rattle.chaintext.specs.Reads.{done}
+use Rattle.chaintext.specs.Counted.{done_at}
 use Rattle.chaintext.specs.Steps.{add_arc, arc_by, arc_of, arc_step, behind, due, end_step, no_arc, rising, room, straight, with_arc}
 use Rattle.chaintext.specs.Writing.{ArcWithin, Before, arc_text, arcs_text}
 use Rattle.chaintext.proofs.Lines.{Begun, Ended, Ends, LineRead, begun-with, done_ended, due_came, goes, line_read, word_came}
@@ -256,7 +256,7 @@ module _ (h : Head) (few : h.count ≤ max_parts) (o : ℕ) (ps : List Part) whe
   -- all arcs and the end
   pub arcs_go : (more arcs : List Arc) (after : List ℕ) → Orderly h.count (arcs ++ more) → length (arcs ++ more) ≤ most_arcs → Ends (at arcs) (arcs_text more ++ (line_of key.End (codes "plant") ++ after)) (reader stage.Done h o ps (arcs ++ more)) after
   arcs_go [] arcs after orderly fits =
-      subst (λ l. Ends (at arcs) (line_of key.End (codes "plant") ++ after) (reader stage.Done h o ps l) after) (sym (append-nil arcs)) (goes (at arcs) (no_stage refl) key.End refl (reader stage.Done h o ps arcs) (codes "plant") after (reader stage.Done h o ps arcs) after (plain_bytes (codes "plant") refl).1 (leb-true (length (codes "plant")) widest_value refl) refl (λ place. (place, done refl)))
+      subst (λ l. Ends (at arcs) (line_of key.End (codes "plant") ++ after) (reader stage.Done h o ps l) after) (sym (append-nil arcs)) (goes (at arcs) (no_stage refl) key.End refl (reader stage.Done h o ps arcs) (codes "plant") after (reader stage.Done h o ps arcs) after (plain_bytes (codes "plant") refl).1 (leb-true (length (codes "plant")) widest_value refl) refl (λ place. (place, done_at refl)))
   arcs_go (a ∷ more) arcs after orderly fits =
       let here = orderly_at h.count arcs a more orderly in
       let free : length arcs < most_arcs = omega (arith, length-append arcs (a ∷ more)) in

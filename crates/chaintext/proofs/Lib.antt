@@ -1,6 +1,7 @@
 pub mod AllParts
 pub mod Arcs
 pub mod ChainTextLaw
+pub mod Forgets
 pub mod Hazards
 pub mod Heads
 pub mod Lines

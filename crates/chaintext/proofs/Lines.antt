@@ -18,30 +18,31 @@ use Rattle.reading.proofs.ValueLaws.{between_law}
 use Rattle.reading.proofs.WrittenLaws.{widest_value, number_short, read_line, written-line, written-rest}
 use Rattle.chaintext.specs.declared.reader.ChainReader.{ChainReader}
 use Rattle.chaintext.specs.declared.reader.Stage.TheVariants as stage
-use Rattle.chaintext.specs.Reads.{line_step, Ending, complete, refused, Reads, done, stop, more}
+use Rattle.chaintext.specs.Reads.{line_step}
+use Rattle.chaintext.specs.Counted.{CountedEnding, complete_at, refused_at, CountedReads, done_at, stop_at, more_at}
 use Rattle.chaintext.specs.Steps.{Step, chain_step, due, with_number}
 
 -- a reading ends in one way only
-pub one_ending : {d : ChainReader} {text : List ℕ} {place : ℕ} {o p : Ending} → Reads d text place o → Reads d text place p → o ≡ p
-one_ending (done e) (done f) = refl
-one_ending (done e) (stop n s) = absurd (n e)
-one_ending (done e) (more n s r) = absurd (n e)
-one_ending (stop n s) (done f) = absurd (n f)
-one_ending {text = text} {place = place} (stop {rule = x} n s) (stop {rule = y} m t) =
-    let same : x ≡ y = cc in ap (λ w. refused w (place + 1) (rest_at text) (place + taken (line_at text))) same
-one_ending (stop n s) (more m t q) = let z : ◌≡◌ {A = ℕ} 0 1 = cc in absurd (omega arith)
-one_ending (more n s r) (done f) = absurd (n f)
-one_ending (more n s r) (stop m t) = let z : ◌≡◌ {A = ℕ} 0 1 = cc in absurd (omega arith)
-one_ending {text = text} {place = place} {p = p} (more {e = x} n s r) (more {e = y} m t q) =
-    let same : y ≡ x = cc in one_ending r (subst (λ (z : ChainReader). Reads z (rest_at text) (place + 1) p) same q)
+pub one_ending : {d : ChainReader} {text : List ℕ} {place : ℕ} {o p : CountedEnding} → CountedReads d text place o → CountedReads d text place p → o ≡ p
+one_ending (done_at e) (done_at f) = refl
+one_ending (done_at e) (stop_at n s) = absurd (n e)
+one_ending (done_at e) (more_at n s r) = absurd (n e)
+one_ending (stop_at n s) (done_at f) = absurd (n f)
+one_ending {text = text} {place = place} (stop_at {rule = x} n s) (stop_at {rule = y} m t) =
+    let same : x ≡ y = cc in ap (λ w. refused_at w (place + 1) (rest_at text) (place + taken (line_at text))) same
+one_ending (stop_at n s) (more_at m t q) = let z : ◌≡◌ {A = ℕ} 0 1 = cc in absurd (omega arith)
+one_ending (more_at n s r) (done_at f) = absurd (n f)
+one_ending (more_at n s r) (stop_at m t) = let z : ◌≡◌ {A = ℕ} 0 1 = cc in absurd (omega arith)
+one_ending {text = text} {place = place} {p = p} (more_at {e = x} n s r) (more_at {e = y} m t q) =
+    let same : y ≡ x = cc in one_ending r (subst (λ (z : ChainReader). CountedReads z (rest_at text) (place + 1) p) same q)
 
 -- reading from here ends with this reader and this rest, however many lines were read before
 abbrev pub Ends : ChainReader → List ℕ → ChainReader → List ℕ → Type 0
-Ends d text last after = (place : ℕ) → (count : ℕ) × Reads d text place (complete last after count)
+Ends d text last after = (place : ℕ) → (count : ℕ) × CountedReads d text place (complete_at last after count)
 
 -- a reading from here ended so
 abbrev pub Ended : ChainReader → List ℕ → ChainReader → List ℕ → Type 0
-Ended d text last after = (place : ℕ) × ((count : ℕ) × Reads d text place (complete last after count))
+Ended d text last after = (place : ℕ) × ((count : ℕ) × CountedReads d text place (complete_at last after count))
 
 -- the line that a reading began with
 pub record LineRead (d : ChainReader) (text : List ℕ) (last : ChainReader) (after : List ℕ) : Type 0 where
@@ -52,20 +53,20 @@ pub record LineRead (d : ChainReader) (text : List ℕ) (last : ChainReader) (af
   pub step : chain_step d (key_of name) value ≡ Ok next
   pub ended : Ended next (rest_at text) last after
 
-pub line_read : {d : ChainReader} {text : List ℕ} {place : ℕ} {o : Ending} (last : ChainReader) (after : List ℕ) (count : ℕ) → (d.stage ≡ stage.Done → ⊥) → Reads d text place o → o ≡ complete last after count → LineRead d text last after
-line_read last after count going (done e) q = absurd (going e)
-line_read last after count going (stop n s) q = let z : ◌≡◌ {A = ℕ} 0 1 = cc in absurd (omega arith)
-line_read {d} {text} {place} {o} last after count going (more {e = next} n s r) q = by-line (line_at text) refl s
+pub line_read : {d : ChainReader} {text : List ℕ} {place : ℕ} {o : CountedEnding} (last : ChainReader) (after : List ℕ) (count : ℕ) → (d.stage ≡ stage.Done → ⊥) → CountedReads d text place o → o ≡ complete_at last after count → LineRead d text last after
+line_read last after count going (done_at e) q = absurd (going e)
+line_read last after count going (stop_at n s) q = let z : ◌≡◌ {A = ℕ} 0 1 = cc in absurd (omega arith)
+line_read {d} {text} {place} {o} last after count going (more_at {e = next} n s r) q = by-line (line_at text) refl s
   where
     by-line : (l : Said) → line_at text ≡ l → line_step d l ≡ Ok next → LineRead d text last after
     by-line (fault m) e s = let z : ◌≡◌ {A = ℕ} 0 1 = cc in absurd (omega arith)
-    by-line (pair k v) e s = record { name = k; value = v; next = next; line = e; step = s; ended = (place + 1, (count, subst (Reads next (rest_at text) (place + 1)) q r)) }
+    by-line (pair k v) e s = record { name = k; value = v; next = next; line = e; step = s; ended = (place + 1, (count, subst (CountedReads next (rest_at text) (place + 1)) q r)) }
 
 -- behind the end nothing more is read
-pub done_ended : {d : ChainReader} {text : List ℕ} {place : ℕ} {o : Ending} (last : ChainReader) (after : List ℕ) (count : ℕ) → d.stage ≡ stage.Done → Reads d text place o → o ≡ complete last after count → (d ≡ last) × (text ≡ after)
-done_ended last after count e (done f) q = (cc, cc)
-done_ended last after count e (stop n s) q = absurd (n e)
-done_ended last after count e (more n s r) q = absurd (n e)
+pub done_ended : {d : ChainReader} {text : List ℕ} {place : ℕ} {o : CountedEnding} (last : ChainReader) (after : List ℕ) (count : ℕ) → d.stage ≡ stage.Done → CountedReads d text place o → o ≡ complete_at last after count → (d ≡ last) × (text ≡ after)
+done_ended last after count e (done_at f) q = (cc, cc)
+done_ended last after count e (stop_at n s) q = absurd (n e)
+done_ended last after count e (more_at n s r) q = absurd (n e)
 
 -- a word that was due
 pub word_came : (value word : List ℕ) (d next : ChainReader) → cond (bytes_eq value word) (Ok d) (Err Unexpected) ≡ Ok next → (value ≡ word) × (d ≡ next)
@@ -111,7 +112,7 @@ module _ (d : ChainReader) (going : d.stage ≡ stage.Done → ⊥) (key : Key) 
   goes next v text last after bytes short step ends place =
       let steps : line_step d (line_at (line_of key v ++ text)) ≡ Ok next = ap (line_step d) (written-line key named v text bytes short) ∙ ap (λ k. chain_step d k v) (key_of_name key) ∙ step in
       let end = ends (place + 1) in
-      (end.0, more going steps (subst (λ t. Reads next t (place + 1) (complete last after end.0)) (sym (written-rest key named v text bytes short)) end.1))
+      (end.0, more_at going steps (subst (λ t. CountedReads next t (place + 1) (complete_at last after end.0)) (sym (written-rest key named v text bytes short)) end.1))
 
   pub goes-due : (S : List ℕ → Step) (next : ChainReader) (v text : List ℕ) (last : ChainReader) (after : List ℕ) → Takes d key S → All Printable v → length v ≤ widest_value → S v ≡ Ok next → Ends next text last after → Ends d (line_of key v ++ text) last after
   goes-due S next v text last after takes bytes short step ends =

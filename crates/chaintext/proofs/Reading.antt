@@ -5,7 +5,8 @@ use Rattle.lines.proofs.LineLaws.{rest_shorter}
 use Rattle.reading.specs.declared.rules.Rule.{Rule}
 use Rattle.chaintext.specs.declared.reader.ChainReader.{ChainReader}
 use Rattle.chaintext.specs.declared.reader.Stage.TheVariants as stage
-use Rattle.chaintext.specs.Reads.{line_step, Ending, complete, refused, Reads, done, stop, more}
+use Rattle.chaintext.specs.Reads.{line_step}
+use Rattle.chaintext.specs.Counted.{CountedEnding, complete_at, refused_at, CountedReads, done_at, stop_at, more_at}
 use Rattle.chaintext.specs.Steps.{Step, Took}
 
 pub took_err : {U : Type 0} (s : Step) (old new : ChainReader) (r : Result U Rule) (e : Rule) → r ≡ Err e → Took s old new r → s ≡ Err e
@@ -33,14 +34,14 @@ one_taken d e (fault n) h = let z : ◌≡◌ {A = ℕ} 0 1 = cc in absurd (omeg
 
 -- a line that is read from here, by the names that a call gives to what it left
 module _ (d : ChainReader) (text : List ℕ) (place : ℕ) (going : d.stage ≡ stage.Done → ⊥) (rest : List ℕ) (count : ℕ) (left : rest ≡ rest_at text) (counted : count ≡ place + taken (line_at text)) where
-  pub refused-here : (rule : Rule) (line : ℕ) → line ≡ place + 1 → line_step d (line_at text) ≡ Err rule → Reads d text place (refused rule line rest count)
-  refused-here rule line at step = subst (Reads d text place) (λ i. refused rule (sym at i) (sym left i) (sym counted i)) (stop going step)
+  pub refused-here : (rule : Rule) (line : ℕ) → line ≡ place + 1 → line_step d (line_at text) ≡ Err rule → CountedReads d text place (refused_at rule line rest count)
+  refused-here rule line at step = subst (CountedReads d text place) (λ i. refused_at rule (sym at i) (sym left i) (sym counted i)) (stop_at going step)
 
   count-more : (e : ChainReader) → line_step d (line_at text) ≡ Ok e → place + 1 ≡ count
   count-more e step = sym (counted ∙ ap (λ n. place + n) (one_taken d e (line_at text) step))
 
-  pub further : (e : ChainReader) (o : Ending) → line_step d (line_at text) ≡ Ok e → Reads e rest count o → Reads d text place o
-  further e o step reads = more going step (subst (λ n. Reads e (rest_at text) n o) (sym (count-more e step)) (subst (λ t. Reads e t count o) left reads))
+  pub further : (e : ChainReader) (o : CountedEnding) → line_step d (line_at text) ≡ Ok e → CountedReads e rest count o → CountedReads d text place o
+  further e o step reads = more_at going step (subst (λ n. CountedReads e (rest_at text) n o) (sym (count-more e step)) (subst (λ t. CountedReads e t count o) left reads))
 
-  pub complete-here : (e : ChainReader) → line_step d (line_at text) ≡ Ok e → e.stage ≡ stage.Done → Reads d text place (complete e rest count) × (place + 1 ≡ count)
-  complete-here e step last = (further e (complete e rest count) step (done last), count-more e step)
+  pub complete-here : (e : ChainReader) → line_step d (line_at text) ≡ Ok e → e.stage ≡ stage.Done → CountedReads d text place (complete_at e rest count) × (place + 1 ≡ count)
+  complete-here e step last = (further e (complete_at e rest count) step (done_at last), count-more e step)

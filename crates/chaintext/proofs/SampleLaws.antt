@@ -8,7 +8,8 @@ use Rattle.chain.specs.States.{failed_in}
 use Rattle.chain.specs.Renewals.{everything_holds}
 use Rattle.chaintext.specs.declared.reader.ChainReader.{ChainReader}
 use Rattle.chaintext.specs.declared.reader.Stage.TheVariants as stage
-use Rattle.chaintext.specs.Reads.{Reads, complete, done, fresh, more}
+use Rattle.chaintext.specs.Reads.{fresh}
+use Rattle.chaintext.specs.Counted.{CountedReads, complete_at, done_at, more_at}
 use Rattle.chaintext.specs.Sample.{SampleBegins, sample, sample_lines, text_of}
 use Rattle.chaintext.proofs.Parts.{no_stage}
 use Rattle.chaintext.proofs.Whole.{Wrote, complete_wrote}
@@ -17,8 +18,8 @@ use Rattle.chaintext.proofs.Whole.{Wrote, complete_wrote}
 abbrev last : ChainReader
 last = record { stage = stage.Done; head = record { count = sample.count; threshold = sample.threshold; setup = sample.setup; alarm = sample.alarm }; opened = 2; parts = sample.parts; arc_count = 3; arcs = sample.arcs }
 
-sample_read : Reads fresh (text_of sample_lines) 0 (complete last [] 19)
-sample_read = more (no_stage refl) refl (more (no_stage refl) refl (more (no_stage refl) refl (more (no_stage refl) refl (more (no_stage refl) refl (more (no_stage refl) refl (more (no_stage refl) refl (more (no_stage refl) refl (more (no_stage refl) refl (more (no_stage refl) refl (more (no_stage refl) refl (more (no_stage refl) refl (more (no_stage refl) refl (more (no_stage refl) refl (more (no_stage refl) refl (more (no_stage refl) refl (more (no_stage refl) refl (more (no_stage refl) refl (more (no_stage refl) refl (done refl)))))))))))))))))))
+sample_read : CountedReads fresh (text_of sample_lines) 0 (complete_at last [] 19)
+sample_read = more_at (no_stage refl) refl (more_at (no_stage refl) refl (more_at (no_stage refl) refl (more_at (no_stage refl) refl (more_at (no_stage refl) refl (more_at (no_stage refl) refl (more_at (no_stage refl) refl (more_at (no_stage refl) refl (more_at (no_stage refl) refl (more_at (no_stage refl) refl (more_at (no_stage refl) refl (more_at (no_stage refl) refl (more_at (no_stage refl) refl (more_at (no_stage refl) refl (more_at (no_stage refl) refl (more_at (no_stage refl) refl (more_at (no_stage refl) refl (more_at (no_stage refl) refl (more_at (no_stage refl) refl (done_at refl)))))))))))))))))))
 
 sample_wrote : Wrote (text_of sample_lines) sample []
 sample_wrote = complete_wrote (text_of sample_lines) 0 last [] 19 sample_read

@@ -15,7 +15,8 @@ use Rattle.chain.specs.declared.numbers.Part.{Part}
 use Rattle.chaintext.specs.declared.reader.ChainReader.{ChainReader}
 use Rattle.chaintext.specs.declared.reader.Head.{Head}
 use Rattle.chaintext.specs.declared.reader.Stage.TheVariants as stage
-use Rattle.chaintext.specs.Reads.{Reads, complete, fresh, new_part, numbers_of}
+use Rattle.chaintext.specs.Reads.{fresh, new_part, numbers_of}
+use Rattle.chaintext.specs.Counted.{CountedReads, complete_at}
 use Rattle.chaintext.specs.Steps.{no_arc}
 use Rattle.chaintext.specs.Writing.{ArcWithin, ArcsInOrder, Before, UsedUpTo, ZeroBeyond, arc_at, arcs_text, chain_text, parts_text}
 use Rattle.chaintext.proofs.AllParts.{PartsBegun, parts_begun, parts_go}
@@ -118,7 +119,7 @@ module _ (last : ChainReader) (after : List ℕ) where
   head-wrote text t = parts-wrote text t.rest t.head t.known t.whole (parts_begun t.head t.known.count last after (t.head.count - 1) [] t.rest (omega (arith, t.known.some)) t.ended)
 
 -- a text that was read up to the end begins with that of the numbers that were read
-pub complete_wrote : (text : List ℕ) (place : ℕ) (d : ChainReader) (rest : List ℕ) (count : ℕ) → Reads fresh text place (complete d rest count) → Wrote text (numbers_of d) rest
+pub complete_wrote : (text : List ℕ) (place : ℕ) (d : ChainReader) (rest : List ℕ) (count : ℕ) → CountedReads fresh text place (complete_at d rest count) → Wrote text (numbers_of d) rest
 complete_wrote text place d rest count reads = head-wrote d rest text (head-begun d rest text (place, (count, reads)))
 
 -- and such a text is read up to the end
@@ -181,7 +182,7 @@ module _ (n : ChainNumbers) (lawful : LawfulNumbers n) (order : ArcsInOrder n) (
 pub record Completed (text : List ℕ) (n : ChainNumbers) (after : List ℕ) (place : ℕ) : Type 0 where
   pub reader : ChainReader
   pub count : ℕ
-  pub reads : Reads fresh text place (complete reader after count)
+  pub reads : CountedReads fresh text place (complete_at reader after count)
   pub numbers : numbers_of reader ≡ n
 
 pub completed : (text : List ℕ) (n : ChainNumbers) (after : List ℕ) (place : ℕ) → Wrote text n after → Completed text n after place
@@ -190,6 +191,6 @@ completed text n after place w =
     record {
       reader = last_of n w.lawful w.arcs w.zero;
       count = ends.0;
-      reads = subst (λ t. Reads fresh t place (complete (last_of n w.lawful w.arcs w.zero) after ends.0)) (sym w.whole) ends.1;
+      reads = subst (λ t. CountedReads fresh t place (complete_at (last_of n w.lawful w.arcs w.zero) after ends.0)) (sym w.whole) ends.1;
       numbers = numbers-back n w.lawful w.arcs w.zero;
     }

@@ -1,4 +1,5 @@
 pub mod Answers
+pub mod Counted
 pub mod Reads
 pub mod Sample
 pub mod Steps

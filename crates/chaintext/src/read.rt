@@ -2,8 +2,9 @@
 ghost use Rattle.std.specs.Prelude.{◌≡◌};
 ghost use Rattle.chain.specs.Parts.{LawfulNumbers};
 ghost use Rattle.lines.specs.Line.{said};
-ghost use Rattle.chaintext.specs.Answers.{MadeOf, ReadsLines, ReadsChain, Replaced};
-ghost use Rattle.chaintext.specs.Reads.{fresh, line_step, numbers_of};
+ghost use Rattle.chaintext.specs.Answers.{ReadsChain, Replaced};
+ghost use Rattle.chaintext.specs.Counted.{CountedChain, CountedReplaced, MadeOf, ReadsLines};
+ghost use Rattle.chaintext.specs.Reads.{fresh, rule_of, line_step, numbers_of, rule_for};
 ghost use Rattle.chaintext.specs.Sample.{SampleBegins};
 ghost use Rattle.chaintext.specs.Steps.{Took};
 ghost use Rattle.chaintext.specs.Writing.{ReadsFrom, answered, answered_into};
@@ -13,9 +14,9 @@ use chain::limits::{MOST_ARCS, MOST_LIFE};
 use chain::numbers::{ChainNumbers, Part};
 use chain::plant::Chain;
 use chain::refusal::ChainRefusal;
-use lines::reading::{Line, Lines};
+use lines::reading::{BAD_LINE, Line, Lines};
 use reading::keys::key_of;
-use reading::rules::{ReadRefusal, Rule, fault_rule};
+use reading::rules::{ReadRefusal, Rule};
 use workorder::{Arc, MAX_PARTS};
 
 impl ChainReader {
@@ -70,8 +71,30 @@ impl ChainReader {
     {
         match line {
             Line::Pair(key, value) => self.step(key_of(key), value),
-            Line::Fault(number) => Err(fault_rule(number)),
+            Line::Fault(number) => Err(broken_rule(number)),
         }
+    }
+}
+
+// The rule that a faulty line breaks.
+fn broken_rule(fault: u8) -> Rule
+    ensures { result ≡ rule_of fault }
+{
+    if fault == BAD_LINE {
+        Rule::BadLine
+    } else {
+        Rule::Unexpected
+    }
+}
+
+// Why no chain is made, as a rule.
+fn rule_for(refusal: ChainRefusal) -> Rule
+    ensures { result ≡ rule_for refusal }
+{
+    match refusal {
+        ChainRefusal::OutOfRange => Rule::OutOfRange,
+        ChainRefusal::TooManyStates => Rule::TooManyStates,
+        ChainRefusal::NoFullRenewal => Rule::NoFullRenewal,
     }
 }
 
@@ -106,23 +129,17 @@ fn make_chain(complete: Complete) -> Result<Chain, ReadRefusal>
 {
     match Chain::new(complete.reader.numbers()) {
         Ok(chain) => Ok(chain),
-        Err(refusal) => match refusal {
-            ChainRefusal::OutOfRange => unreachable(),
-            ChainRefusal::TooManyStates => Err(ReadRefusal {
-                rule: Rule::TooManyStates,
-                line: complete.line,
-            }),
-            ChainRefusal::NoFullRenewal => Err(ReadRefusal {
-                rule: Rule::NoFullRenewal,
-                line: complete.line,
-            }),
-        },
+        Err(refusal) => Err(ReadRefusal {
+            rule: rule_for(refusal),
+            line: complete.line,
+        }),
     }
 }
 
 // Reads a chain: its lines, and then the making of it. The lines behind its end are left to be read.
 pub fn read_chain(lines: &mut Lines) -> Result<Chain, ReadRefusal>
-    ensures reads { ReadsChain lines.old.rest.now lines.old.place lines.new.rest.now lines.new.place result }
+    ensures reads { ReadsChain lines.old.rest.now lines.old.place lines.new.rest.now result }
+    ensures counts { CountedChain lines.old.rest.now lines.old.place lines.new.rest.now lines.new.place result }
     ensures law { ReadsFrom lines.old.rest.now (answered result) lines.new.rest.now }
     ensures sample { SampleBegins }
 {
@@ -132,7 +149,8 @@ pub fn read_chain(lines: &mut Lines) -> Result<Chain, ReadRefusal>
 
 // Reads a chain into the place of another, which stays as it is where the text is refused.
 pub fn read_chain_into(chain: &mut Chain, lines: &mut Lines) -> Result<(), ReadRefusal>
-    ensures reads { Replaced chain.old chain.new lines.old.rest.now lines.old.place lines.new.rest.now lines.new.place result }
+    ensures reads { Replaced chain.old chain.new lines.old.rest.now lines.old.place lines.new.rest.now result }
+    ensures counts { CountedReplaced chain.old chain.new lines.old.rest.now lines.old.place lines.new.rest.now lines.new.place result }
     ensures law { ReadsFrom lines.old.rest.now (answered_into chain.new result) lines.new.rest.now }
 {
     let read = read_chain(lines)?;

@@ -3,7 +3,7 @@ use Rattle.std.proofs.Common.{◌≡◌, ℕ, List, Ok, Err, Result, sym, refl, 
 use Rattle.reading.specs.declared.rules.ReadRefusal.{ReadRefusal}
 use Rattle.chain.specs.Chains.{chain_model}
 use Rattle.chain.specs.declared.plant.Chain.{Chain}
-use Rattle.chaintext.specs.Answers.{ReadsChain}
+use Rattle.chaintext.specs.Counted.{CountedChain}
 use Rattle.chaintext.specs.Writing.{BeginsChain, ReadsFrom, answered as chain_numbers}
 use Rattle.pair.specs.Pairs.{pair_model}
 use Rattle.pair.specs.declared.plant.Pair.{Pair}
@@ -19,12 +19,12 @@ follows (Ok r) f g h = f r h
 follows (Err y) f g h = g h
 
 module _ (text start : List ℕ) (lines : ℕ) (is : start ≡ text) (none : lines ≡ 0) (rest : List ℕ) (place : ℕ) where
-  pub from-chain : (a : Result Chain ReadRefusal) → ReadsChain start lines rest place a → ReadsFrom start (chain_numbers a) rest → (r : Reply) → AtChain rest place a r → RepliesToChain text r
+  pub from-chain : (a : Result Chain ReadRefusal) → CountedChain start lines rest place a → ReadsFrom start (chain_numbers a) rest → (r : Reply) → AtChain rest place a r → RepliesToChain text r
   from-chain a reads law r h = record {
     answer = a;
     rest = rest;
     place = place;
-    reads = subst (λ t. ReadsChain t 0 rest place a) is (subst (λ n. ReadsChain start n rest place a) none reads);
+    reads = subst (λ t. CountedChain t 0 rest place a) is (subst (λ n. CountedChain start n rest place a) none reads);
     law = subst (λ t. ReadsFrom t (chain_numbers a) rest) is law;
     replies = h;
   }

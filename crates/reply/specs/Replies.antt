@@ -8,7 +8,7 @@ use Rattle.lines.specs.Line.{rest_at}
 use Rattle.reading.specs.declared.rules.ReadRefusal.{ReadRefusal}
 use Rattle.chain.specs.Chains.{chain_model}
 use Rattle.chain.specs.declared.plant.Chain.{Chain}
-use Rattle.chaintext.specs.Answers.{ReadsChain}
+use Rattle.chaintext.specs.Counted.{CountedChain}
 use Rattle.chaintext.specs.Writing.{ReadsFrom, answered as chain_numbers}
 use Rattle.pair.specs.Pairs.{pair_model}
 use Rattle.pair.specs.declared.plant.Pair.{Pair}
@@ -74,7 +74,7 @@ pub record RepliesToChain (text : List ℕ) (r : Reply) : Type 0 where
   pub answer : Result Chain ReadRefusal
   pub rest : List ℕ
   pub place : ℕ
-  pub reads : ReadsChain text 0 rest place answer
+  pub reads : CountedChain text 0 rest place answer
   pub law : ReadsFrom text (chain_numbers answer) rest
   pub replies : AtChain rest place answer r
 

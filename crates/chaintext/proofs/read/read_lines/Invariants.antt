@@ -1,12 +1,13 @@
 use Rattle.std.proofs.Common.{◌≡◌, length}
 use Rattle.chaintext.specs.declared.reader.Stage.TheVariants as stage
-use Rattle.chaintext.specs.Reads.{fresh, Ending, Reads}
+use Rattle.chaintext.specs.Reads.{fresh}
+use Rattle.chaintext.specs.Counted.{CountedEnding, CountedReads}
 use Rattle.chaintext.proofs.read.read_lines.Given as goal
 
 abbrev pub invariant-reading : goal.invariant-reading
 invariant-reading l =
     (l.reader.stage ≡ stage.Done → ⊥)
-    × ((o : Ending) → Reads l.reader l.lines.rest.now l.lines.place o → Reads fresh l.initial.lines.rest.now l.initial.lines.place o)
+    × ((o : CountedEnding) → CountedReads l.reader l.lines.rest.now l.lines.place o → CountedReads fresh l.initial.lines.rest.now l.initial.lines.place o)
 
 abbrev pub decreases-reading : goal.decreases-reading
 decreases-reading l = length l.lines.rest.now
