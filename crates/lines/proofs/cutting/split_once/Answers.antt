@@ -11,5 +11,5 @@ returns-in-err-i c =
 
 pub returns : goal.returns
 returns c =
-    let same = parts_here c.args.sep c.args.text.now c.in-ok-i.i c.in-ok-i.ensures in
+    let same = parts_here c.args.sep c.args.text.now c.in_ok-i.i c.in_ok-i.ensures in
     record { value = same; law = cut_found c.args.sep c.args.text.now _ same }

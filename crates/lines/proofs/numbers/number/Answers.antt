@@ -28,13 +28,13 @@ loop-digit-preserved c =
     let text : List ℕ = c.args.text.now in
     let i : ℕ = c.loop-digit.digit-index in
     let step = at_drop_more (read_on c.args.most c.loop-digit.value) text i 0 c.loop-digit-test.true in
-    sym (read_next c.args.most c.loop-digit.value (get_or text i 0) c.in-ok-value.value (drop (i + 1) text) c.in-ok-value.ensures) ∙ sym step ∙ c.loop-digit.invariant
+    sym (read_next c.args.most c.loop-digit.value (get_or text i 0) c.in_ok-value.value (drop (i + 1) text) c.in_ok-value.ensures) ∙ sym step ∙ c.loop-digit.invariant
 
 pub returns : goal.returns
 returns c =
     let text : List ℕ = c.args.text.now in
-    let none : (length text ≡ 0 → ⊥) = eqb-false _ 0 (sym c.if-is-empty.ensures) in
+    let none : (length text ≡ 0 → ⊥) = eqb-false _ 0 (sym c.if-is_empty.ensures) in
     let some : 0 < length text = omega arith in
     let last = at_drop_all (read_on c.args.most c.loop-digit.value) text c.loop-digit.digit-index c.loop-digit-test.false in
-    let same : Some c.loop-digit.value ≡ numeral text c.args.most = sym last ∙ c.loop-digit.invariant ∙ sym (numeral_read text c.args.most some (sym c.if-has-needless-zero.ensures)) in
+    let same : Some c.loop-digit.value ≡ numeral text c.args.most = sym last ∙ c.loop-digit.invariant ∙ sym (numeral_read text c.args.most some (sym c.if-has_needless_zero.ensures)) in
     record { value = same; law = number_at _ _ _ c.ranges.most.fits same }

@@ -10,5 +10,5 @@ returns-in-err-number c =
 
 pub returns : goal.returns
 returns c =
-    let same : c.negate.result ≡ signed_numeral c.args.text.now = c.negate.ensures ∙ signed_minus c.args.text.now _ c.if-text-ne-MINUS-SIGN.false c.in-ok-number.ensures.value in
+    let same : c.negate.result ≡ signed_numeral c.args.text.now = c.negate.ensures ∙ signed_minus c.args.text.now _ c.if-text-ne-MINUS_SIGN.false c.in_ok-number.ensures.value in
     record { value = same; law = signed_at _ _ same }

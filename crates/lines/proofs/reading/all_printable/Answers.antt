@@ -8,7 +8,7 @@ pub returns-then-not-is-printable : goal.returns-then-not-is-printable
 returns-then-not-is-printable c = sym (printable_bad c.args.bytes.now c.loop-b.b-index (omega arith) c.if-not-is-printable.ensures) ∙ c.loop-b.invariant
 
 pub loop-b-preserved : goal.loop-b-preserved
-loop-b-preserved c = sym (printable_good c.args.bytes.now c.loop-b.b-index (omega arith) c.if-not-is-printable.ensures) ∙ c.loop-b.invariant
+loop-b-preserved c = sym (printable_good c.args.bytes.now c.loop-b.b-index (omega arith) c.if-not-is_printable.ensures) ∙ c.loop-b.invariant
 
 pub returns : goal.returns
 returns c = sym (at_drop_all all_printable _ _ c.loop-b-test.false) ∙ c.loop-b.invariant
