@@ -3,9 +3,9 @@ use Rattle.lines.specs.Numeral.{signed_numeral}
 use Rattle.lines.proofs.NumeralLaws.{signed_minus, signed_at}
 use Rattle.lines.proofs.numbers.signed.Goals as goal
 
-pub returns-in-err-number : goal.returns-in-err-number
-returns-in-err-number c =
-    let same : c.from-residual-in-err-number.result ≡ signed_numeral c.args.text.now = c.from-residual-in-err-number.ensures ∙ signed_minus c.args.text.now _ c.if-text-ne-MINUS-SIGN.false c.in-err-number.ensures.value in
+pub returns-in_err-number : goal.returns-in_err-number
+returns-in_err-number c =
+    let same : c.from_residual-in_err-number.result ≡ signed_numeral c.args.text.now = c.from_residual-in_err-number.ensures ∙ signed_minus c.args.text.now _ c.if-text-ne-MINUS_SIGN.false c.in_err-number.ensures.value in
     record { value = same; law = signed_at _ _ same }
 
 pub returns : goal.returns

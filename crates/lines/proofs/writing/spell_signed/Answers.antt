@@ -4,8 +4,8 @@ use Rattle.std.proofs.lemmas.Int.{to_z-of_z}
 use Rattle.lines.proofs.PlaceLaws.{minus_room, minus_put, signed_below}
 use Rattle.lines.proofs.writing.spell_signed.Goals as goal
 
-pub overflow-sub-minus : goal.overflow-sub-minus
-overflow-sub-minus c = minus_room _ _ _ c.unsigned-abs.ensures.bound c.spell-start.array_long c.spell-start.ensures.text
+pub overflow_sub-minus : goal.overflow_sub-minus
+overflow_sub-minus c = minus_room _ _ _ c.unsigned_abs.ensures.bound c.spell-start.array_long c.spell-start.ensures.text
 
 pub returns : goal.returns
 returns c =

@@ -5,10 +5,10 @@ use Rattle.lines.proofs.LineLaws.{rest_shorter, found_law}
 use Rattle.lines.proofs.reading.Lines.next_line.Goals as goal
 use Rattle.lines.proofs.reading.Lines.next_line.Goals.{in-Pair, in_default}
 
-pub invariant-of-self : goal.invariant-of-self
-invariant-of-self c =
-    let less = rest_shorter c.args.self.now.rest.now _ _ (sym c.first-line.ensures.line ∙ ap said c.in-Pair.is) in
-    (omega (arith, c.args.self.now.few, ap length c.first-line.ensures.rest), tt)
+pub invariant_of-self : goal.invariant_of-self
+invariant_of-self c =
+    let less = rest_shorter c.args.self.now.rest.now _ _ (sym c.first_line.ensures.line ∙ ap said c.in-Pair.is) in
+    record { few = omega (arith, c.args.self.now.few, ap length c.first_line.ensures.rest) }
 
 pub returns : goal.returns
 returns c =
