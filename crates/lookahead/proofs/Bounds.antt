@@ -1,17 +1,16 @@
 -- How far rows reach, and that no step of a look-ahead or a gain is absent under a table within reach.
-use Rattle.std.proofs.Common.{◌≡◌, ℕ, zero, suc, ◌+◌, ◌*◌, ◌<◌, ◌≤◌, max, Bool, true, false, cond, leb, List, [], ◌∷◌, map, length, get_or, replicate, ℤ, pos, negsuc, ◌+ℤ◌, ◌-ℤ◌, ◌*ℤ◌, neg_ℤ, nat_abs, Some, None, Option, sym, refl, ap, ◌∙◌, subst, arith}
+use Rattle.std.proofs.Common.{◌≡◌, ℕ, zero, suc, ◌+◌, ◌*◌, ◌<◌, ◌≤◌, max, Bool, true, false, cond, List, [], ◌∷◌, map, length, get_or, ℤ, pos, negsuc, ◌+ℤ◌, ◌-ℤ◌, ◌*ℤ◌, neg_ℤ, nat_abs, Some, None, Option, sym, refl, ap, ◌∙◌, subst, arith}
 use lib.IntN.{+ℤ_assoc, +ℤ_idr}
 use Rattle.std.proofs.lemmas.Nat.{mul-le}
 use Rattle.std.proofs.lemmas.Int.{ints}
 use Rattle.std.proofs.lemmas.Bool.Decides.{nat_tests}
 use Rattle.std.specs.List.{slice_get}
-use Rattle.std.specs.Option.{option_map}
 use Rattle.interface.specs.declared.plant.Bill.{Bill}
 use Rattle.interface.specs.declared.plant.Outcome.{Outcome}
 use Rattle.interface.specs.Limits.{whole, most_reach, most_factor, most_price}
 use Rattle.interface.specs.Plants.{Model, Lawful, LawfulBill, weights, Inside}
 use Rattle.interface.specs.Rows.{Row, zeros, plus, minus, times, reach}
-use Rattle.interface.specs.Tariffs.{Scale, LawfulScale, Answers, price, summable, multipliable, billable, Fit}
+use Rattle.interface.specs.Tariffs.{Scale, LawfulScale, price, summable, multipliable, billable}
 use Rattle.lookahead.specs.Gains.{most_value, value_of, expected, look_ahead, gain, Near, Within}
 use Rattle.lookahead.specs.Steps.{then, summed, lessened, multiplied, priced, add_outcome, add_outcomes, look_ahead_steps, gain_steps}
 

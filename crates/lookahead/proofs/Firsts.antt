@@ -1,8 +1,8 @@
 -- The first best keeps its law, for any test that is total and transitive on the rows at hand.
-use Rattle.std.proofs.Common.{◌≡◌, ℕ, zero, suc, ◌+◌, ◌<◌, ◌≤◌, Bool, true, false, cond, ◌⊎◌, Some, None, Option, sym, refl, ap, ◌∙◌, subst, inl, inr, ⊎_elim, arith}
+use Rattle.std.proofs.Common.{◌≡◌, ℕ, zero, suc, ◌<◌, Bool, true, false, cond, ◌⊎◌, Some, None, Option, sym, refl, ap, ◌∙◌, subst, ⊎_elim, arith}
 use Rattle.std.proofs.lemmas.Bool.{cases_eq, cases_Bool, both_ways}
 use Rattle.interface.specs.Rows.{Row}
-use Rattle.lookahead.specs.Best.{Pick, better, first_best, Chosen, FirstBest}
+use Rattle.lookahead.specs.Best.{Pick, better, first_best, FirstBest}
 
 -- no row is there and absent
 clash : {A : Type 0} {X : Type 0} (o : Option A) (a : A) → o ≡ Some a → o ≡ None → X

@@ -17,7 +17,7 @@ fn add_outcome<T: Tariff>(
     sum: T::Amount,
     o: Outcome,
 ) -> Option<T::Amount>
-    ensures { option_map row result ≡ add_outcome (map row values.now) (row sum) o }
+    ensures { option_map T.Tariff.row result ≡ add_outcome (map T.Tariff.row values.now) (T.Tariff.row sum) o }
 {
     if o.next >= values.len() {
         return None;
@@ -35,7 +35,7 @@ fn add_outcomes<P: Plant, T: Tariff>(
     state: usize,
     portfolio: usize,
 ) -> Option<T::Amount>
-    ensures { option_map row result ≡ add_outcomes (map row values.now) (row start) (outcomes_of (model plant.now) state portfolio) }
+    ensures { option_map T.Tariff.row result ≡ add_outcomes (map T.Tariff.row values.now) (T.Tariff.row start) (outcomes_of (P.model plant.now) state portfolio) }
 {
     let mut sum = start;
     for k in 0..plant.outcome_count(state, portfolio) {
@@ -53,7 +53,7 @@ fn ahead_by_steps<P: Plant, T: Tariff>(
     state: usize,
     portfolio: usize,
 ) -> Option<T::Amount>
-    ensures { option_map row result ≡ look_ahead_steps (model plant.now) (scale tariff.now) (map row values.now) state portfolio }
+    ensures { option_map T.Tariff.row result ≡ look_ahead_steps (P.model plant.now) (T.scale tariff.now) (map T.Tariff.row values.now) state portfolio }
 {
     let bill = plant.bill(state, portfolio)?;
     let price = tariff.price(bill)?;
@@ -69,7 +69,7 @@ fn gain_by_steps<P: Plant, T: Tariff>(
     state: usize,
     portfolio: usize,
 ) -> Option<T::Amount>
-    ensures { option_map row result ≡ gain_steps (model plant.now) (scale tariff.now) (map row values.now) state portfolio }
+    ensures { option_map T.Tariff.row result ≡ gain_steps (P.model plant.now) (T.scale tariff.now) (map T.Tariff.row values.now) state portfolio }
 {
     let ahead = ahead_by_steps(plant, tariff, values, state, portfolio)?;
     if state >= values.len() {
@@ -88,8 +88,8 @@ pub(crate) fn look_ahead<P: Plant, T: Tariff>(
     state: usize,
     portfolio: usize,
 ) -> Option<T::Amount>
-    ensures steps { option_map row result ≡ look_ahead_steps (model plant.now) (scale tariff.now) (map row values.now) state portfolio }
-    ensures within { Within (model plant.now) (map row values.now) → Answers row result ((model plant.now).feasible state portfolio) (look_ahead (model plant.now) (scale tariff.now) (map row values.now) state portfolio) }
+    ensures steps { option_map T.Tariff.row result ≡ look_ahead_steps (P.model plant.now) (T.scale tariff.now) (map T.Tariff.row values.now) state portfolio }
+    ensures within { Within (P.model plant.now) (map T.Tariff.row values.now) → Answers T.Tariff.row result ((P.model plant.now).feasible state portfolio) (look_ahead (P.model plant.now) (T.scale tariff.now) (map T.Tariff.row values.now) state portfolio) }
 {
     ahead_by_steps(plant, tariff, values, state, portfolio)
 }
@@ -102,8 +102,8 @@ pub(crate) fn gain<P: Plant, T: Tariff>(
     state: usize,
     portfolio: usize,
 ) -> Option<T::Amount>
-    ensures steps { option_map row result ≡ gain_steps (model plant.now) (scale tariff.now) (map row values.now) state portfolio }
-    ensures within { Within (model plant.now) (map row values.now) → Answers row result ((model plant.now).feasible state portfolio) (gain (model plant.now) (scale tariff.now) (map row values.now) state portfolio) }
+    ensures steps { option_map T.Tariff.row result ≡ gain_steps (P.model plant.now) (T.scale tariff.now) (map T.Tariff.row values.now) state portfolio }
+    ensures within { Within (P.model plant.now) (map T.Tariff.row values.now) → Answers T.Tariff.row result ((P.model plant.now).feasible state portfolio) (gain (P.model plant.now) (T.scale tariff.now) (map T.Tariff.row values.now) state portfolio) }
 {
     gain_by_steps(plant, tariff, values, state, portfolio)
 }

@@ -20,7 +20,7 @@ pub fn keep_least<T: Tariff>(
     at: usize,
     next: Option<T::Amount>,
 ) -> Option<Choice<T::Amount>>
-    ensures { option_map (pick row) result ≡ better (cheaper (scale tariff.now)) (option_map (pick row) best) at (option_map row next) }
+    ensures { option_map (pick T.Tariff.row) result ≡ better (cheaper (T.scale tariff.now)) (option_map (pick T.Tariff.row) best) at (option_map T.Tariff.row next) }
 {
     match (best, next) {
         (_, None) => best,
@@ -42,7 +42,7 @@ pub fn keep_greatest<T: Tariff>(
     at: usize,
     next: Option<T::Amount>,
 ) -> Option<Choice<T::Amount>>
-    ensures { option_map (pick row) result ≡ better (dearer (scale tariff.now)) (option_map (pick row) best) at (option_map row next) }
+    ensures { option_map (pick T.Tariff.row) result ≡ better (dearer (T.scale tariff.now)) (option_map (pick T.Tariff.row) best) at (option_map T.Tariff.row next) }
 {
     match (best, next) {
         (_, None) => best,

@@ -45,8 +45,8 @@ impl<'a, A: Copy> ValueTable<'a, A> {
         state: usize,
         portfolio: usize,
     ) -> Option<A>
-        ensures steps { option_map row result ≡ look_ahead_steps (model plant.now) (scale tariff.now) (map row self.now.amounts.now) state portfolio }
-        ensures within { Within (model plant.now) (map row self.now.amounts.now) → Answers row result ((model plant.now).feasible state portfolio) (look_ahead (model plant.now) (scale tariff.now) (map row self.now.amounts.now) state portfolio) }
+        ensures steps { option_map T.Tariff.row result ≡ look_ahead_steps (P.model plant.now) (T.scale tariff.now) (map T.Tariff.row self.now.amounts.now) state portfolio }
+        ensures within { Within (P.model plant.now) (map T.Tariff.row self.now.amounts.now) → Answers T.Tariff.row result ((P.model plant.now).feasible state portfolio) (look_ahead (P.model plant.now) (T.scale tariff.now) (map T.Tariff.row self.now.amounts.now) state portfolio) }
     {
         ahead::look_ahead(plant, tariff, self.amounts, state, portfolio)
     }
@@ -59,8 +59,8 @@ impl<'a, A: Copy> ValueTable<'a, A> {
         state: usize,
         portfolio: usize,
     ) -> Option<A>
-        ensures steps { option_map row result ≡ gain_steps (model plant.now) (scale tariff.now) (map row self.now.amounts.now) state portfolio }
-        ensures within { Within (model plant.now) (map row self.now.amounts.now) → Answers row result ((model plant.now).feasible state portfolio) (gain (model plant.now) (scale tariff.now) (map row self.now.amounts.now) state portfolio) }
+        ensures steps { option_map T.Tariff.row result ≡ gain_steps (P.model plant.now) (T.scale tariff.now) (map T.Tariff.row self.now.amounts.now) state portfolio }
+        ensures within { Within (P.model plant.now) (map T.Tariff.row self.now.amounts.now) → Answers T.Tariff.row result ((P.model plant.now).feasible state portfolio) (gain (P.model plant.now) (T.scale tariff.now) (map T.Tariff.row self.now.amounts.now) state portfolio) }
     {
         ahead::gain(plant, tariff, self.amounts, state, portfolio)
     }
@@ -72,9 +72,9 @@ impl<'a, A: Copy> ValueTable<'a, A> {
         tariff: &T,
         state: usize,
     ) -> Option<Choice<A>>
-        ensures steps { option_map (pick row) result ≡ first_best (cheaper (scale tariff.now)) (look_ahead_steps (model plant.now) (scale tariff.now) (map row self.now.amounts.now) state) (model plant.now).portfolios }
-        ensures within { Within (model plant.now) (map row self.now.amounts.now) → option_map (pick row) result ≡ first_best (cheaper (scale tariff.now)) (where_feasible (model plant.now) (look_ahead (model plant.now) (scale tariff.now) (map row self.now.amounts.now)) state) (model plant.now).portfolios }
-        ensures least { Within (model plant.now) (map row self.now.amounts.now) → FirstBest (cheaper (scale tariff.now)) (where_feasible (model plant.now) (look_ahead (model plant.now) (scale tariff.now) (map row self.now.amounts.now)) state) (model plant.now).portfolios (option_map (pick row) result) }
+        ensures steps { option_map (pick T.Tariff.row) result ≡ first_best (cheaper (T.scale tariff.now)) (look_ahead_steps (P.model plant.now) (T.scale tariff.now) (map T.Tariff.row self.now.amounts.now) state) (P.model plant.now).portfolios }
+        ensures within { Within (P.model plant.now) (map T.Tariff.row self.now.amounts.now) → option_map (pick T.Tariff.row) result ≡ first_best (cheaper (T.scale tariff.now)) (where_feasible (P.model plant.now) (look_ahead (P.model plant.now) (T.scale tariff.now) (map T.Tariff.row self.now.amounts.now)) state) (P.model plant.now).portfolios }
+        ensures least { Within (P.model plant.now) (map T.Tariff.row self.now.amounts.now) → FirstBest (cheaper (T.scale tariff.now)) (where_feasible (P.model plant.now) (look_ahead (P.model plant.now) (T.scale tariff.now) (map T.Tariff.row self.now.amounts.now)) state) (P.model plant.now).portfolios (option_map (pick T.Tariff.row) result) }
     {
         let mut least = None;
         for x in 0..plant.portfolios() {
@@ -91,9 +91,9 @@ impl<'a, A: Copy> ValueTable<'a, A> {
         tariff: &T,
         state: usize,
     ) -> Option<Choice<A>>
-        ensures steps { option_map (pick row) result ≡ first_best (cheaper (scale tariff.now)) (gain_steps (model plant.now) (scale tariff.now) (map row self.now.amounts.now) state) (model plant.now).portfolios }
-        ensures within { Within (model plant.now) (map row self.now.amounts.now) → option_map (pick row) result ≡ first_best (cheaper (scale tariff.now)) (where_feasible (model plant.now) (gain (model plant.now) (scale tariff.now) (map row self.now.amounts.now)) state) (model plant.now).portfolios }
-        ensures least { Within (model plant.now) (map row self.now.amounts.now) → FirstBest (cheaper (scale tariff.now)) (where_feasible (model plant.now) (gain (model plant.now) (scale tariff.now) (map row self.now.amounts.now)) state) (model plant.now).portfolios (option_map (pick row) result) }
+        ensures steps { option_map (pick T.Tariff.row) result ≡ first_best (cheaper (T.scale tariff.now)) (gain_steps (P.model plant.now) (T.scale tariff.now) (map T.Tariff.row self.now.amounts.now) state) (P.model plant.now).portfolios }
+        ensures within { Within (P.model plant.now) (map T.Tariff.row self.now.amounts.now) → option_map (pick T.Tariff.row) result ≡ first_best (cheaper (T.scale tariff.now)) (where_feasible (P.model plant.now) (gain (P.model plant.now) (T.scale tariff.now) (map T.Tariff.row self.now.amounts.now)) state) (P.model plant.now).portfolios }
+        ensures least { Within (P.model plant.now) (map T.Tariff.row self.now.amounts.now) → FirstBest (cheaper (T.scale tariff.now)) (where_feasible (P.model plant.now) (gain (P.model plant.now) (T.scale tariff.now) (map T.Tariff.row self.now.amounts.now)) state) (P.model plant.now).portfolios (option_map (pick T.Tariff.row) result) }
     {
         let mut least = None;
         for x in 0..plant.portfolios() {

@@ -1,5 +1,4 @@
-use Rattle.std.proofs.Common.{◌≡◌, ◌+◌, ◌<◌, ◌∷◌, map, length, drop, Some, None, sym, ap, ◌∙◌, arith}
-use Rattle.std.specs.List.{slice_get}
+use Rattle.std.proofs.Common.{◌≡◌, ◌+◌, ◌<◌, map, length, drop, Some, None, sym, ap, ◌∙◌, arith}
 use Rattle.std.specs.Option.{option_map}
 use Rattle.std.proofs.lemmas.List.{drop_all}
 use Rattle.interface.specs.Plants.{outcomes_of}
@@ -7,20 +6,20 @@ use Rattle.lookahead.specs.Steps.{then, add_outcome, add_outcomes}
 use Rattle.lookahead.proofs.Optional.{drop_nth, nth_there}
 use Rattle.lookahead.proofs.ahead.add_outcomes.Goals as goal
 
-pub returns-in-err-o : goal.returns-in-err-o
-returns-in-err-o g c =
+pub returns-in_err-o : goal.returns-in_err-o
+returns-in_err-o g c =
     let os = outcomes_of (g.P.Plant.model c.args.plant.now) c.args.state c.args.portfolio in
     let inside : c.loop-k.k < length os = omega arith in
-    absurd (nth_there os c.loop-k.k inside (sym c.outcome.ensures ∙ c.in-err-o.was))
+    absurd (nth_there os c.loop-k.k inside (sym c.outcome.ensures ∙ c.in_err-o.was))
 
-pub returns-in-err-sum : goal.returns-in-err-sum
-returns-in-err-sum g c =
+pub returns-in_err-sum : goal.returns-in_err-sum
+returns-in_err-sum g c =
     let row = g.T.Tariff.row in
     let vs = map row c.args.values.now in
     let os = outcomes_of (g.P.Plant.model c.args.plant.now) c.args.state c.args.portfolio in
-    let split = drop_nth os c.loop-k.k c.in-ok-o.o (sym c.outcome.ensures ∙ c.in-ok-o.was) in
-    let none : add_outcome vs (row c.loop-k.sum) c.in-ok-o.o ≡ None = sym c.add_outcome.ensures ∙ ap (option_map row) c.in-err-sum.was in
-    ap (option_map row) c.from-residual-in-err-sum.ensures
+    let split = drop_nth os c.loop-k.k c.in_ok-o.o (sym c.outcome.ensures ∙ c.in_ok-o.was) in
+    let none : add_outcome vs (row c.loop-k.sum) c.in_ok-o.o ≡ None = sym c.add_outcome.ensures ∙ ap (option_map row) c.in_err-sum.was in
+    ap (option_map row) c.from_residual-in_err-sum.ensures
     ∙ sym (sym c.loop-k.invariant ∙ ap (add_outcomes vs (row c.loop-k.sum)) split ∙ ap (λ z. then z (λ w. add_outcomes vs w (drop (c.loop-k.k + 1) os))) none)
 
 pub loop-k-preserved : goal.loop-k-preserved
@@ -28,8 +27,8 @@ loop-k-preserved g c =
     let row = g.T.Tariff.row in
     let vs = map row c.args.values.now in
     let os = outcomes_of (g.P.Plant.model c.args.plant.now) c.args.state c.args.portfolio in
-    let split = drop_nth os c.loop-k.k c.in-ok-o.o (sym c.outcome.ensures ∙ c.in-ok-o.was) in
-    let some : add_outcome vs (row c.loop-k.sum) c.in-ok-o.o ≡ Some (row c.in-ok-sum.sum) = sym c.add_outcome.ensures ∙ ap (option_map row) c.in-ok-sum.was in
+    let split = drop_nth os c.loop-k.k c.in_ok-o.o (sym c.outcome.ensures ∙ c.in_ok-o.was) in
+    let some : add_outcome vs (row c.loop-k.sum) c.in_ok-o.o ≡ Some (row c.in_ok-sum.sum) = sym c.add_outcome.ensures ∙ ap (option_map row) c.in_ok-sum.was in
     sym (ap (λ z. then z (λ w. add_outcomes vs w (drop (c.loop-k.k + 1) os))) some) ∙ sym (ap (add_outcomes vs (row c.loop-k.sum)) split) ∙ c.loop-k.invariant
 
 pub returns : goal.returns

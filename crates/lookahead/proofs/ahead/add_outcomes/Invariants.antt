@@ -1,4 +1,4 @@
-use Rattle.std.proofs.Common.{◌≡◌, map, length, drop}
+use Rattle.std.proofs.Common.{◌≡◌, map, drop}
 use Rattle.interface.specs.Plants.{outcomes_of}
 use Rattle.lookahead.specs.Steps.{add_outcomes}
 use Rattle.lookahead.proofs.ahead.add_outcomes.Given as goal

@@ -1,4 +1,4 @@
-use Rattle.std.proofs.Common.{◌≡◌, map, ◌∙◌}
+use Rattle.std.proofs.Common.{map, ◌∙◌}
 use Rattle.lookahead.specs.Gains.{look_ahead}
 use Rattle.lookahead.proofs.Bounds.{ahead-answer, fits_map}
 use Rattle.lookahead.proofs.Optional.{answers}
@@ -11,7 +11,7 @@ returns g c =
     let vs = map g.T.Tariff.row c.args.values.now in
     let fit = fits_map g.T.Tariff.row t.places (g.met.T.Tariff.fits c.args.tariff.now) c.args.values.now in
     record {
-      steps = c.ahead-by-steps.ensures;
-      within = λ w. answers g.T.Tariff.row c.ahead-by-steps.result (m.feasible c.args.state c.args.portfolio) (look_ahead m t vs c.args.state c.args.portfolio)
-          (c.ahead-by-steps.ensures ∙ ahead-answer m (g.met.P.Plant.lawful c.args.plant.now) t (g.met.T.Tariff.lawful c.args.tariff.now) vs w fit c.args.state c.args.portfolio);
+      steps = c.ahead_by_steps.ensures;
+      within = λ w. answers g.T.Tariff.row c.ahead_by_steps.result (m.feasible c.args.state c.args.portfolio) (look_ahead m t vs c.args.state c.args.portfolio)
+          (c.ahead_by_steps.ensures ∙ ahead-answer m (g.met.P.Plant.lawful c.args.plant.now) t (g.met.T.Tariff.lawful c.args.tariff.now) vs w fit c.args.state c.args.portfolio);
     }

@@ -14,7 +14,7 @@ loop-x-preserved g c =
     let row = g.T.Tariff.row in
     let t = g.T.Tariff.scale c.args.tariff.now in
     let f = gain_steps (g.P.Plant.model c.args.plant.now) t (map row c.args.self.now.amounts.now) c.args.state in
-    c.keep-least-least.ensures
+    c.keep_least-least.ensures
     ∙ ap (λ z. better (cheaper t) z c.loop-x.x (option_map row c.gain-gain.result)) c.loop-x.invariant
     ∙ ap (better (cheaper t) (first_best (cheaper t) f c.loop-x.x) c.loop-x.x) c.gain-gain.ensures.steps
     ∙ sym (first_best_more (cheaper t) f c.loop-x.x)
