@@ -1,6 +1,6 @@
 -- The laws of fields between commas.
 use Rattle.std.proofs.Common.{◌≡◌, ℕ, ◌<◌, Bool, true, false, cond, eqb, List, [], ◌∷◌, ◌++◌, length, Some, None, Option, sym, refl, ap, ◌∙◌, subst, arith, Bor}
-use Rattle.std.specs.List.{AllByRecursion as All}
+use Rattle.std.specs.List.{AllByRecursion}
 use Rattle.std.proofs.lemmas.List.{append-nil}
 use Rattle.std.proofs.lemmas.Bool.{ne_eqb, eqb-true, eqb-false, cond-false}
 use Rattle.lines.specs.declared.cutting.FirstField.{FirstField}
@@ -21,7 +21,7 @@ fields_more (x ∷ p) q h = cond-false _ _ _ (ne_eqb x comma h.0) ∙ ap (widene
 record Known (text : List ℕ) (fs : List (List ℕ)) : Type 0 where
   some : 0 < length fs
   joins : joined fs ≡ text
-  free : All (Free comma) fs
+  free : AllByRecursion (Free comma) fs
 
 known_comma : (xs : List ℕ) (fs : List (List ℕ)) → Known xs fs → Known (comma ∷ xs) ([] ∷ fs)
 known_comma xs [] k = absurd (omega (arith, k.some))
@@ -48,7 +48,7 @@ known [] = record { some = omega arith; joins = refl; free = (tt, tt) }
 known (x ∷ xs) = known_step x xs (eqb x comma) refl (known xs)
 
 -- fields without commas, joined, are read back
-pub fields_joined : (fs : List (List ℕ)) → 0 < length fs → All (Free comma) fs → fields (joined fs) ≡ fs
+pub fields_joined : (fs : List (List ℕ)) → 0 < length fs → AllByRecursion (Free comma) fs → fields (joined fs) ≡ fs
 fields_joined [] some h = absurd (omega arith)
 fields_joined (f ∷ []) some h = fields_one f h.0
 fields_joined (f ∷ (g ∷ fs)) some h = fields_more f (joined (g ∷ fs)) h.0 ∙ ap (λ l. f ∷ l) (fields_joined (g ∷ fs) (omega arith) h.1)

@@ -1,6 +1,6 @@
 -- The laws of the line at the front of a text.
 use Rattle.std.proofs.Common.{◌≡◌, ℕ, ◌+◌, ◌<◌, ◌≤◌, Bool, true, false, cond, ◌&&◌, eqb, leb, ◌⊎◌, List, [], ◌∷◌, ◌++◌, length, get_or, drop, Some, None, Decides, Option, sym, refl, ap, ◌∙◌, subst, inl, inr, ⊎_elim, arith}
-use Rattle.std.specs.List.{AllByRecursion as All}
+use Rattle.std.specs.List.{AllByRecursion}
 use Rattle.std.proofs.ByRecursion.{All-append, All-weaker, Decides-by_and}
 use Rattle.std.proofs.lemmas.List.{append_assoc, length-append, at_drop_more}
 use Rattle.std.proofs.lemmas.Bool.{leb-true, le-leb, ne_eqb, eqb-false, and_from, and_parts, cond-true, cond-false}
@@ -19,15 +19,15 @@ printable_bad xs i l e = at_drop_more all_printable xs i 0 l ∙ ap (λ t. t && 
 printable_decides : (b : ℕ) → Decides (printable b) (Printable b)
 printable_decides b = Decides-and _ _ (leb-true lowest_byte b, le-leb lowest_byte b) (leb-true b highest_byte, le-leb b highest_byte)
 
-all_decides : (bs : List ℕ) → Decides (all_printable bs) (All Printable bs)
+all_decides : (bs : List ℕ) → Decides (all_printable bs) (AllByRecursion Printable bs)
 all_decides bs = Decides-by_and printable Printable all_printable printable_decides refl (λ _ _. refl) bs
 
-free_printable : (bs : List ℕ) → All Printable bs → Free line_end bs
+free_printable : (bs : List ℕ) → AllByRecursion Printable bs → Free line_end bs
 free_printable bs h = All-weaker Printable (λ x. x ≡ line_end → ⊥) (λ x p e. omega (arith, p.0)) bs h
 
 -- from the parts of a line to what is read
 module _ (text k v rest : List ℕ) (b : Begins text k v rest) where
-  line-bytes : All Printable (k ++ (equals_sign ∷ v))
+  line-bytes : AllByRecursion Printable (k ++ (equals_sign ∷ v))
   line-bytes = All-append Printable k (equals_sign ∷ v) b.key ((omega arith, omega arith), b.value)
 
   line_cut : cut_at line_end text ≡ Some (k ++ (equals_sign ∷ v), rest)
@@ -52,7 +52,7 @@ record Parts (l k v : List ℕ) : Type 0 where
   whole : l ≡ k ++ (equals_sign ∷ v)
   named : 0 < length k
   first : Free equals_sign k
-  bytes : All Printable l
+  bytes : AllByRecursion Printable l
   short : length l ≤ longest_line
 
 never : {P : Type 0} (n : ℕ) (k v : List ℕ) → fault n ≡ pair k v → P
@@ -81,7 +81,7 @@ line_back l k v e = judged (leb (length l) longest_line && all_printable l) refl
         let sides = keyed_back l k v (cut_at equals_sign l) (cut_law equals_sign l) e in
         record { whole = sides.0; named = sides.1; first = sides.2; bytes = (all_decides l).0 tests.1; short = leb-true _ _ tests.0 }
 
-all_left : (xs ys : List ℕ) → All Printable (xs ++ ys) → All Printable xs × All Printable ys
+all_left : (xs ys : List ℕ) → AllByRecursion Printable (xs ++ ys) → AllByRecursion Printable xs × AllByRecursion Printable ys
 all_left [] ys h = (tt, h)
 all_left (x ∷ xs) ys h = let rest = all_left xs ys h.1 in ((h.0, rest.0), rest.1)
 
@@ -89,7 +89,7 @@ cut_back : (text k v : List ℕ) (c : Option (List ℕ × List ℕ)) → CutFirs
 cut_back text k v None h e = never ends_early k v e
 cut_back text k v (Some c) h e =
     let p = line_back c.0 k v e in
-    let bytes = all_left k (equals_sign ∷ v) (subst (All Printable) p.whole p.bytes) in
+    let bytes = all_left k (equals_sign ∷ v) (subst (AllByRecursion Printable) p.whole p.bytes) in
     record {
       whole = h.1 ∙ ap (λ l. l ++ (line_end ∷ c.1)) p.whole ∙ append_assoc k (equals_sign ∷ v) (line_end ∷ c.1);
       named = p.named;

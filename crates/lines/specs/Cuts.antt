@@ -1,7 +1,7 @@
 -- Texts are lists of bytes. What it means to cut one at the first of a byte.
 use Rattle.std.specs.Prelude.{◌≡◌, ℕ, ◌<◌, cond, List, [], ◌∷◌, ◌++◌, length, Some, None, Option, ◌==◌, ◌≢◌, slice_index}
 use Rattle.std.specs.Borrow.{Bor}
-use Rattle.std.specs.List.{AllByRecursion as All}
+use Rattle.std.specs.List.{AllByRecursion}
 
 -- one byte more in front of a cut
 abbrev pub onto : ℕ → Option (List ℕ × List ℕ) → Option (List ℕ × List ℕ)
@@ -15,7 +15,7 @@ cut_at b (x ∷ xs) = cond (x == b) (Some ([], xs)) (onto x (cut_at b xs))
 
 -- b stands nowhere in the text
 abbrev pub Free : ℕ → List ℕ → Type 0
-Free b xs = All (λ x. x ≢ b) xs
+Free b xs = AllByRecursion (λ x. x ≢ b) xs
 
 -- the place of the first b, absent where there is none
 abbrev pub FoundFirst : ℕ → List ℕ → Option ℕ → Type 0

@@ -1,7 +1,7 @@
 -- The fields of a text: what its commas separate.
 use Rattle.std.specs.Prelude.{◌≡◌, ℕ, ◌<◌, cond, List, [], ◌∷◌, ◌++◌, length, Some, None, Option, ◌==◌}
 use Rattle.std.specs.Borrow.{Bor}
-use Rattle.std.specs.List.{AllByRecursion as All}
+use Rattle.std.specs.List.{AllByRecursion}
 use Rattle.lines.specs.declared.cutting.FirstField.{FirstField}
 use Rattle.lines.specs.Cuts.{Free}
 
@@ -41,8 +41,8 @@ FirstOf text f = Free comma f.first.now × (text ≡ f.first.now ++ right_behind
 -- the fields of a text as a relation: free of commas, joined they are the text, and no other fields are
 pub record FieldsOf (text : List ℕ) (fs : List (List ℕ)) : Type 0 where
   pub joins : joined fs ≡ text
-  pub free : All (Free comma) fs
-  pub only : (gs : List (List ℕ)) → 0 < length gs → All (Free comma) gs → joined gs ≡ text → gs ≡ fs
+  pub free : AllByRecursion (Free comma) fs
+  pub only : (gs : List (List ℕ)) → 0 < length gs → AllByRecursion (Free comma) gs → joined gs ≡ text → gs ≡ fs
 
 -- what is still to be read is taken apart into its fields
 abbrev pub StillOf : Option (Bor (List ℕ)) → Type 0

@@ -1,6 +1,6 @@
 -- The line at the front of a text. A line is key=value and ends with its line end.
 use Rattle.std.specs.Prelude.{◌≡◌, ℕ, ◌+◌, ◌<◌, ◌≤◌, Bool, true, cond, ◌&&◌, List, [], ◌∷◌, ◌++◌, length, Some, None, Option, ◌==◌, nat_le}
-use Rattle.std.specs.List.{AllByRecursion as All}
+use Rattle.std.specs.List.{AllByRecursion}
 use Rattle.lines.specs.declared.reading.Line.{Line}
 use Rattle.lines.specs.declared.reading.Line.TheVariants.{Pair, Fault}
 use Rattle.lines.specs.Cuts.{cut_at, Free}
@@ -93,8 +93,8 @@ pub record Begins (text k v rest : List ℕ) : Type 0 where
   pub whole : text ≡ k ++ (equals_sign ∷ (v ++ (line_end ∷ rest)))
   pub named : 0 < length k
   pub first : Free equals_sign k
-  pub key : All Printable k
-  pub value : All Printable v
+  pub key : AllByRecursion Printable k
+  pub value : AllByRecursion Printable v
   pub short : length k + 1 + length v ≤ longest_line
 
 -- the first line of a text and what it leaves, as a relation

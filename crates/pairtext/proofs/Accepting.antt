@@ -1,6 +1,6 @@
 -- The text of a pair is accepted, and gives its numbers back.
 use Rattle.std.proofs.Common.{◌≡◌, ℕ, zero, suc, ◌+◌, ◌-◌, ◌^◌, ◌<◌, ◌≤◌, true, false, ltb, List, [], ◌∷◌, ◌++◌, map, length, get_or, take, drop, Some, Ok, codes, decimal, Option, sym, refl, ap, ◌∙◌, subst, ⊎_elim, arith}
-use Rattle.std.specs.List.{AllByRecursion as All}
+use Rattle.std.specs.List.{AllByRecursion}
 use Rattle.std.proofs.lemmas.List.{append_assoc, at_drop_more, at_drop_all, get_or_append_left, get_or-map, get_or-take, length-append, length-drop, length-map, length-take-le, take_all}
 use Rattle.std.proofs.lemmas.Bool.{cases_lt, leb-true, ltb-true, eq-eqb, ne_eqb, cond-true, cond-false}
 use Rattle.lines.specs.Fields.{joined}
@@ -81,7 +81,7 @@ module _ (g : Reading) where
   abbrev Comes : PairReader → List ℕ → Type 0
   Comes r text = (place : ℕ) × Goes r text place g
 
-  comes-line : (r next : PairReader) (key : Key) (v more : List ℕ) → ltb 0 (length (name_of key)) ≡ true → All Printable v → length v ≤ widest_value → StepTo r key v next → Comes r (line_of key v ++ more) → Comes next more
+  comes-line : (r next : PairReader) (key : Key) (v more : List ℕ) → ltb 0 (length (name_of key)) ≡ true → AllByRecursion Printable v → length v ≤ widest_value → StepTo r key v next → Comes r (line_of key v ++ more) → Comes next more
   comes-line r next key v more some bytes short step (place, h) =
       let named : (key ≡ NoKey → ⊥) = some_name key some in
       (place + 1, goes_at next (rest_at (line_of key v ++ more)) more (place + 1) (place + 1) g (written-rest key named v more bytes short) refl (goes_on r (line_of key v ++ more) place g (name_of key) v (sym (written-line key named v more bytes short)) next (ap (λ k. pair_step r k v) (key_of_name key) ∙ step.0) step.1 h))
@@ -186,7 +186,7 @@ module _ (g : Reading) where
   end_goes : (n : PairNumbers) (k : ℕ) (after : List ℕ) → renewable n ≡ true → Comes (st n.threshold n.setup n.inspect EndDue Two n.two n.one k) (line_of End (codes "plant") ++ after) → (g.answer ≡ Ok n) × (g.rest ≡ after)
   end_goes n k after r (place, h) =
       let named : (End ≡ NoKey → ⊥) = some_name End refl in
-      let bytes : All Printable (codes "plant") = (plain_bytes (codes "plant") refl).1 in
+      let bytes : AllByRecursion Printable (codes "plant") = (plain_bytes (codes "plant") refl).1 in
       let short : length (codes "plant") ≤ widest_value = leb-true (length (codes "plant")) widest_value refl in
       let is = goes-closed (st n.threshold n.setup n.inspect EndDue Two n.two n.one k) (line_of End (codes "plant") ++ after) place g (name_of End) (codes "plant") (sym (written-line End named (codes "plant") after bytes short)) (st n.threshold n.setup n.inspect Complete Two n.two n.one k) refl refl h in
       (ap (λ (z : Reading). z.answer) is ∙ cond-true _ _ _ r, ap (λ (z : Reading). z.rest) is ∙ written-rest End named (codes "plant") after bytes short)

@@ -1,6 +1,6 @@
 -- A row that was read is lawful.
 use Rattle.std.proofs.Common.{◌≡◌, ℕ, zero, suc, ◌+◌, ◌-◌, ◌<◌, ◌≤◌, Bool, true, false, cond, eqb, List, [], ◌∷◌, ◌++◌, map, length, get_or, take, drop, set, replicate, Some, None, decimal, sum, Option, sym, refl, ap, ◌∙◌, subst, ⊎_elim, arith}
-use Rattle.std.specs.List.{AllByRecursion as All}
+use Rattle.std.specs.List.{AllByRecursion}
 use Rattle.std.proofs.ByRecursion.{All-from_get_or}
 use Rattle.std.proofs.lemmas.List.{append_assoc, take_all, take_at, take_more, take_more_set, drop_more, get_or_past, get_or-take, get_or-replicate, drop-replicate, set_at, length-map, length-append, length-drop, length-take, length-take-le, map_push}
 use Rattle.std.proofs.lemmas.List.Sums.{sum_by-cons, sum_by-append, sum_by_more, get_or-le-sum_by}
@@ -130,7 +130,7 @@ module _ (row : List ℕ) (grades own : ℕ) (some : 0 < grades) (most : grades 
   row-sum : sum (take grades row) ≡ hundred
   row-sum = sym (over_take row grades) ∙ law.0
 
-  row_within : All (λ n. n ≤ hundred) (take grades row)
+  row_within : AllByRecursion (λ n. n ≤ hundred) (take grades row)
   row_within = All-from_get_or (λ n. n ≤ hundred) (take grades row) 0 (λ i l. omega (arith, get_or-le-sum_by (λ x. x) (take grades row) i 0 l, row-sum))
 
   row-adds-up : adds_up own (padded (take grades row)) ≡ true
@@ -154,7 +154,7 @@ module _ (row : List ℕ) (grades own : ℕ) (some : 0 < grades) (most : grades 
       ap (tested own) listed ∙ cond-true _ _ _ row-adds-up
 
   -- and its text fits a line
-  pub row-printable : All Printable (joined (map decimal (take grades row)))
+  pub row-printable : AllByRecursion Printable (joined (map decimal (take grades row)))
   row-printable = list-printable hundred 3 (omega arith) (omega arith) (omega arith) (take grades row) row_within
 
   pub row-short : length (joined (map decimal (take grades row))) ≤ widest_value

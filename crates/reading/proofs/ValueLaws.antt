@@ -1,6 +1,6 @@
 -- Numbers and lists are read exactly from their texts.
 use Rattle.std.proofs.Common.{◌≡◌, ℕ, zero, suc, ◌^◌, ◌<◌, ◌≤◌, Bool, true, false, cond, eqb, leb, List, [], ◌∷◌, map, length, Some, None, decimal, Option, sym, refl, ap, ◌∙◌, subst, arith}
-use Rattle.std.specs.List.{AllByRecursion as All}
+use Rattle.std.specs.List.{AllByRecursion}
 use Rattle.std.proofs.lemmas.Bool.{leb-true, le-leb, cond-true}
 use Rattle.lines.specs.Cuts.{Free}
 use Rattle.lines.specs.Fields.{comma, fields, widened, joined}
@@ -37,7 +37,7 @@ fronted (Some n) None ns e = let z : ◌≡◌ {A = ℕ} 0 1 = cc in absurd (ome
 fronted (Some n) (Some ms) ns e = record { n = n; ms = ms; first = refl; rest = refl; is = cc }
 
 module _ (most : ℕ) (small : most < 2 ^ 64) where
-  numbers-from : (fs : List (List ℕ)) (count : ℕ) (ns : List ℕ) → numbers_of fs most count ≡ Some ns → (fs ≡ map decimal ns) × (length ns ≡ count) × All (λ n. n ≤ most) ns
+  numbers-from : (fs : List (List ℕ)) (count : ℕ) (ns : List ℕ) → numbers_of fs most count ≡ Some ns → (fs ≡ map decimal ns) × (length ns ≡ count) × AllByRecursion (λ n. n ≤ most) ns
   numbers-from [] zero [] e = (refl, refl, tt)
   numbers-from [] zero (n ∷ ns) e = let z : ◌≡◌ {A = ℕ} 0 1 = cc in absurd (omega arith)
   numbers-from [] (suc count) ns e = let z : ◌≡◌ {A = ℕ} 0 1 = cc in absurd (omega arith)
@@ -47,15 +47,15 @@ module _ (most : ℕ) (small : most < 2 ^ 64) where
       let one = (numeral_law f most small h.n).0 h.first in
       let more = numbers-from fs count h.ms h.rest in
       subst
-      (λ l. ((f ∷ fs) ≡ map decimal l) × (length l ≡ suc count) × All (λ n. n ≤ most) l)
+      (λ l. ((f ∷ fs) ≡ map decimal l) × (length l ≡ suc count) × AllByRecursion (λ n. n ≤ most) l)
       (sym h.is)
       ((λ i. one.0 i ∷ more.0 i), ap suc more.1, (one.1, more.2))
 
-  numbers-back : (ns : List ℕ) → All (λ n. n ≤ most) ns → numbers_of (map decimal ns) most (length ns) ≡ Some ns
+  numbers-back : (ns : List ℕ) → AllByRecursion (λ n. n ≤ most) ns → numbers_of (map decimal ns) most (length ns) ≡ Some ns
   numbers-back [] h = refl
   numbers-back (n ∷ ns) h = (λ i. in_front (numeral_decimal n most small h.0 i) (numbers-back ns h.1 i))
 
-  decimals-free : (ns : List ℕ) → All (λ n. n ≤ most) ns → All (Free comma) (map decimal ns)
+  decimals-free : (ns : List ℕ) → AllByRecursion (λ n. n ≤ most) ns → AllByRecursion (Free comma) (map decimal ns)
   decimals-free [] h = tt
   decimals-free (n ∷ ns) h = (decimal_free comma (omega arith) n (omega (arith, h.0)), decimals-free ns h.1)
 

@@ -1,6 +1,6 @@
 -- A line that was written is read back, and a line that was read was written so.
 use Rattle.std.proofs.Common.{◌≡◌, ℕ, zero, suc, ◌*◌, ◌^◌, ◌<◌, ◌≤◌, Bool, true, not, ◌&&◌, eqb, ltb, leb, List, [], ◌∷◌, ◌++◌, map, length, decimal, sym, refl, ap, ◌∙◌, subst, suc-mul, arith}
-use Rattle.std.specs.List.{AllByRecursion as All}
+use Rattle.std.specs.List.{AllByRecursion}
 use Rattle.std.proofs.lemmas.Fmt.{length-decimal-le}
 use Rattle.std.proofs.ByRecursion.{All-append}
 use Rattle.std.proofs.lemmas.List.{append_assoc, length-append}
@@ -23,7 +23,7 @@ all_plain (b ∷ bs) = (printable b && not (eqb b equals_sign)) && all_plain bs
 abbrev plain : List ℕ → Bool
 plain name = (ltb 0 (length name) && leb (length name) 9) && all_plain name
 
-pub plain_bytes : (bs : List ℕ) → all_plain bs ≡ true → Free equals_sign bs × All Printable bs
+pub plain_bytes : (bs : List ℕ) → all_plain bs ≡ true → Free equals_sign bs × AllByRecursion Printable bs
 plain_bytes [] e = (tt, tt)
 plain_bytes (b ∷ bs) e =
     let parts = and_parts (printable b && not (eqb b equals_sign)) (all_plain bs) e in
@@ -59,7 +59,7 @@ names_plain Other h = absurd (h refl)
 abbrev pub widest_value : ℕ
 widest_value = 190
 
-module _ (k : Key) (named : k ≡ Other → ⊥) (v more : List ℕ) (bytes : All Printable v) (short : length v ≤ widest_value) where
+module _ (k : Key) (named : k ≡ Other → ⊥) (v more : List ℕ) (bytes : AllByRecursion Printable v) (short : length v ≤ widest_value) where
   pub line-parts : Begins (line_of k v ++ more) (name_of k) v more
   line-parts =
       let parts = and_parts (ltb 0 (length (name_of k)) && leb (length (name_of k)) 9) (all_plain (name_of k)) (names_plain k named) in
@@ -90,26 +90,26 @@ pub number_short : (n : ℕ) → n < 2 ^ 64 → length (decimal n) ≤ widest_va
 number_short n small = omega (arith, length-decimal-le 20 n (omega arith) (omega arith) small)
 
 -- so may a list of numbers
-joined_printable : (fs : List (List ℕ)) → All (All Printable) fs → All Printable (joined fs)
+joined_printable : (fs : List (List ℕ)) → AllByRecursion (AllByRecursion Printable) fs → AllByRecursion Printable (joined fs)
 joined_printable [] h = tt
 joined_printable (f ∷ []) h = h.0
 joined_printable (f ∷ (g ∷ fs)) h = All-append Printable f (comma ∷ joined (g ∷ fs)) h.0 ((omega arith, omega arith), joined_printable (g ∷ fs) h.1)
 
-joined_short : (w : ℕ) (fs : List (List ℕ)) → All (λ f. length f < w) fs → length (joined fs) ≤ length fs * w
+joined_short : (w : ℕ) (fs : List (List ℕ)) → AllByRecursion (λ f. length f < w) fs → length (joined fs) ≤ length fs * w
 joined_short w [] h = omega arith
 joined_short w (f ∷ []) h = omega (arith, suc-mul zero w, h.0)
 joined_short w (f ∷ (g ∷ fs)) h =
     omega (arith, suc-mul (length (g ∷ fs)) w, length-append f (comma ∷ joined (g ∷ fs)), joined_short w (g ∷ fs) h.1, h.0)
 
 module _ (most : ℕ) (digits : ℕ) (some : 0 < digits) (small : most < 2 ^ 64) (few : most < 10 ^ digits) where
-  pub list-printable : (ns : List ℕ) → All (λ n. n ≤ most) ns → All Printable (joined (map decimal ns))
+  pub list-printable : (ns : List ℕ) → AllByRecursion (λ n. n ≤ most) ns → AllByRecursion Printable (joined (map decimal ns))
   list-printable ns h = joined_printable (map decimal ns) (each ns h)
     where
-      each : (ns : List ℕ) → All (λ n. n ≤ most) ns → All (All Printable) (map decimal ns)
+      each : (ns : List ℕ) → AllByRecursion (λ n. n ≤ most) ns → AllByRecursion (AllByRecursion Printable) (map decimal ns)
       each [] h = tt
       each (n ∷ ns) h = (decimal_printable n (omega (arith, h.0)), each ns h.1)
 
-  widths : (ns : List ℕ) → All (λ n. n ≤ most) ns → All (λ f. length f < suc digits) (map decimal ns)
+  widths : (ns : List ℕ) → AllByRecursion (λ n. n ≤ most) ns → AllByRecursion (λ f. length f < suc digits) (map decimal ns)
   widths [] h = tt
   widths (n ∷ ns) h = (omega (arith, length-decimal-le digits n some (omega (arith, h.0)) (omega (arith, h.0))), widths ns h.1)
 
@@ -117,5 +117,5 @@ module _ (most : ℕ) (digits : ℕ) (some : 0 < digits) (small : most < 2 ^ 64)
   length-decimals [] = refl
   length-decimals (n ∷ ns) = ap suc (length-decimals ns)
 
-  pub list-short : (ns : List ℕ) → All (λ n. n ≤ most) ns → length (joined (map decimal ns)) ≤ length ns * suc digits
+  pub list-short : (ns : List ℕ) → AllByRecursion (λ n. n ≤ most) ns → length (joined (map decimal ns)) ≤ length ns * suc digits
   list-short ns h = subst (λ m. length (joined (map decimal ns)) ≤ m * suc digits) (length-decimals ns) (joined_short (suc digits) (map decimal ns) (widths ns h))

@@ -1,6 +1,6 @@
 -- The numbers in the value of a line.
 use Rattle.std.specs.Prelude.{◌≡◌, ℕ, zero, suc, ◌<◌, ◌≤◌, cond, List, [], ◌∷◌, map, length, Some, None, decimal, Option, nat_le}
-use Rattle.std.specs.List.{AllByRecursion as All}
+use Rattle.std.specs.List.{AllByRecursion}
 use Rattle.lines.specs.Exactly.{Iff}
 use Rattle.lines.specs.Fields.{fields, joined}
 use Rattle.lines.specs.Numeral.{numeral}
@@ -37,4 +37,4 @@ ReadsBetween s least most r = (n : ℕ) → Iff (r ≡ Some n) ((s ≡ decimal n
 
 -- a list is read exactly from the decimal texts of so many numbers up to a limit, with a comma between each two
 abbrev pub ReadsList : List ℕ → ℕ → ℕ → Option (List ℕ) → Type 0
-ReadsList s most count r = (ns : List ℕ) → Iff (r ≡ Some ns) ((s ≡ joined (map decimal ns)) × (0 < count) × (length ns ≡ count) × All (λ n. n ≤ most) ns)
+ReadsList s most count r = (ns : List ℕ) → Iff (r ≡ Some ns) ((s ≡ joined (map decimal ns)) × (0 < count) × (length ns ≡ count) × AllByRecursion (λ n. n ≤ most) ns)

@@ -1,6 +1,6 @@
 -- The lines of a request are read exactly as they are written.
 use Rattle.std.proofs.Common.{◌≡◌, ℕ, ◌+◌, ◌^◌, ◌<◌, ◌≤◌, Bool, true, false, cond, not, ◌&&◌, eqb, List, [], ◌∷◌, ◌++◌, length, Some, None, Ok, Err, codes, decimal, Option, Result, sym, refl, ap, ◌∙◌, subst, arith, lit<}
-use Rattle.std.specs.List.{AllByRecursion as All}
+use Rattle.std.specs.List.{AllByRecursion}
 use Rattle.std.specs.Str.{bytes_eq}
 use Rattle.std.proofs.lemmas.Fmt.{length-decimal-le}
 use Rattle.std.proofs.ByRecursion.{All-append}
@@ -64,7 +64,7 @@ made_kind : (k : Kind) → kind_named (kind_word k) ≡ Ok k
 made_kind Chain = refl
 made_kind Pair = refl
 
-kind_bytes : (k : Kind) → All Printable (kind_word k) × (length (kind_word k) ≤ widest_value)
+kind_bytes : (k : Kind) → AllByRecursion Printable (kind_word k) × (length (kind_word k) ≤ widest_value)
 kind_bytes Chain = ((plain_bytes (codes "chain") refl).1, omega arith)
 kind_bytes Pair = ((plain_bytes (codes "pair") refl).1, omega arith)
 
@@ -126,7 +126,7 @@ free_of b (x ∷ xs) e =
     (eqb-false x b (not-true _ parts.0), free_of b xs parts.1)
 
 -- a tariff as it is written
-word_free : (c : TariffChoice) → RateInRange c → All (Free comma) (tariff_words c)
+word_free : (c : TariffChoice) → RateInRange c → AllByRecursion (Free comma) (tariff_words c)
 word_free (Priced n) h = (free_of comma (codes "priced") refl, (decimal_free comma (omega arith) n (small h), tt))
 word_free AirFirst h = (free_of comma (codes "airfirst") refl, tt)
 
@@ -138,7 +138,7 @@ made_tariff : (c : TariffChoice) → RateInRange c → tariff_by (tariff_words c
 made_tariff (Priced n) h = ap rate_of (numeral_decimal n most_rate (lit< tt) h)
 made_tariff AirFirst h = refl
 
-word_bytes : (c : TariffChoice) → RateInRange c → All Printable (joined (tariff_words c)) × (length (joined (tariff_words c)) ≤ widest_value)
+word_bytes : (c : TariffChoice) → RateInRange c → AllByRecursion Printable (joined (tariff_words c)) × (length (joined (tariff_words c)) ≤ widest_value)
 word_bytes (Priced n) h = (
   All-append Printable (codes "priced") (comma ∷ decimal n) (plain_bytes (codes "priced") refl).1 ((omega arith, omega arith), decimal_printable n (small h)),
   omega (arith, length-append (codes "priced") (comma ∷ decimal n), length-decimal-le 20 n (omega arith) (omega arith) (small h)),

@@ -5,14 +5,14 @@ use Rattle.reading.specs.declared.keys.Key.TheVariants.{Other}
 use Rattle.reading.proofs.KeyLaws.{named_here, named_later, key_law}
 use Rattle.reading.proofs.keys.key_of.Goals as goal
 
-pub returns-then-is-word : goal.returns-then-is-word
-returns-then-is-word c =
-    let same = sym (named_here c.args.name.now _ named_keys _ _ c.loop-key-test.true c.name.ensures c.if-is-word.ensures) ∙ c.loop-key.invariant in
+pub returns-then-is_word : goal.returns-then-is_word
+returns-then-is_word c =
+    let same = sym (named_here c.args.name.now _ named_keys _ _ c.loop-key-test.true c.name.ensures c.if-is_word.ensures) ∙ c.loop-key.invariant in
     record { value = same; law = key_law _ _ same }
 
 pub loop-key-preserved : goal.loop-key-preserved
 loop-key-preserved c =
-    sym (named_later c.args.name.now _ named_keys _ _ c.loop-key-test.true c.name.ensures c.if-is-word.ensures) ∙ c.loop-key.invariant
+    sym (named_later c.args.name.now _ named_keys _ _ c.loop-key-test.true c.name.ensures c.if-is_word.ensures) ∙ c.loop-key.invariant
 
 pub returns : goal.returns
 returns c =
