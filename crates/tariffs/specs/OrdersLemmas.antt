@@ -1,7 +1,7 @@
 -- The order in which the first place decides keeps the laws of a tariff's order, at any number of places.
-use Rattle.std.specs.Prelude.{◌≡◌, ℕ, suc, Bool, true, false, cond, ◌⊎◌, List, [], ◌∷◌, length, ℤ, ◌+ℤ◌, ◌≤ℤ◌, ◌<ℤ◌, int_lt, refl}
-use Rattle.std.proofs.Common.{ap, sym, ◌∙◌, inl, inr, ⊎_elim, arith, rules}
-use Rattle.std.proofs.lemmas.Int.{ints, by_lt_z}
+use Rattle.std.specs.Prelude.{◌≡◌, ℕ, Bool, true, false, ◌⊎◌, [], ◌∷◌, length, ℤ, ◌+ℤ◌, int_lt, refl}
+use Rattle.std.proofs.Common.{inl, inr, ⊎_elim, arith}
+use Rattle.std.proofs.lemmas.Int.{ints}
 use Rattle.interface.specs.Rows.{Row, plus}
 use Rattle.tariffs.specs.Orders.{first_decides}
 
