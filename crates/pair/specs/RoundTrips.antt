@@ -1,13 +1,13 @@
 -- States and their numbers turn into each other without loss.
-use Rattle.std.specs.Prelude.{◌≡◌, ℕ, zero, suc, ◌+◌, ◌-◌, ◌*◌, ◌/◌, ◌%◌, ◌<◌, ◌≤◌, Bool, true, false, cond, ◌&&◌, Some, None, Option, nat_lt, refl}
-use Rattle.std.proofs.Common.{ap, sym, ◌∙◌, ⊎_elim, arith, mod-eq_of_lt}
+use Rattle.std.specs.Prelude.{◌≡◌, ℕ, zero, suc, ◌+◌, ◌-◌, ◌*◌, ◌/◌, ◌%◌, ◌<◌, ◌≤◌, true, ◌&&◌, Some, nat_lt}
+use Rattle.std.proofs.Common.{ap, ◌∙◌, arith, mod-eq_of_lt}
 use Rattle.std.proofs.Math.Nat.{add-mul-div_left, add-mul-mod_self_left, div-eq_of_lt}
 use Rattle.std.proofs.lemmas.Nat.{mul-add-lt, div_below, mod_below, div-add-mod'}
-use Rattle.std.proofs.lemmas.Bool.{cases_Bool, ltb-true, lt-ltb, le-leb}
+use Rattle.std.proofs.lemmas.Bool.{ltb-true, lt-ltb}
 use Rattle.std.proofs.lemmas.Bool.Decides.{nat_tests}
 use Rattle.pair.specs.declared.numbers.PairNumbers.{PairNumbers}
 use Rattle.pair.specs.declared.states.Grades.{Grades}
-use Rattle.pair.specs.States.{all_states, grades_in, numbered, has_grade, state_of, grades_of, WithoutLoss}
+use Rattle.pair.specs.States.{all_states, grades_in, has_grade, state_of, grades_of, WithoutLoss}
 
 same_grades : (g h : Grades) → g.one ≡ h.one → g.two ≡ h.two → g ≡ h
 same_grades g h p q = λ i. record { one = p i; two = q i }

@@ -5,8 +5,8 @@ pub const MOST_GRADES: usize = 8;
 // The hundredths of one row add up to this number.
 pub const HUNDRED: u32 = 100;
 
-pub const MOST_THRESHOLD: u32 = interface::limits::MOST_THRESHOLD;
+pub const MOST_THRESHOLD: u32 = 10_000;
 // The largest setup, inspection, planned or forced renewal, in cents.
-pub const MOST_CHARGE: u32 = interface::limits::MOST_CHARGE;
+pub const MOST_CHARGE: u32 = 1_000_000;
 // The largest number of dark seconds of one failed unit.
 pub const MOST_DARK: u32 = 5000;

@@ -1,4 +1,4 @@
-use Rattle.std.proofs.Common.{◌≡◌, arith}
+use Rattle.std.proofs.Common.{arith}
 use Rattle.pair.specs.Units.{hundredths}
 use Rattle.pair.proofs.Sums.{part_of_whole}
 use Rattle.pair.proofs.numbers.UnitNumbers.chance.Goals as goal

@@ -1,4 +1,4 @@
-use Rattle.std.proofs.Common.{◌≡◌, refl, subst, ⊎_elim, arith, rules}
+use Rattle.std.proofs.Common.{◌≡◌, refl, subst, ⊎_elim, arith}
 use Rattle.std.proofs.lemmas.Bool.{cases_lt}
 use Rattle.pair.specs.Units.{LawfulRow}
 use Rattle.pair.proofs.numbers.UnitNumbers.rows_lawful.Goals as goal
@@ -9,7 +9,7 @@ loop-grade-preserved c g some below =
     (λ before. c.loop-grade.invariant g some before)
     (λ here.
     let same : c.loop-grade.grade ≡ g = omega arith in
-    subst (LawfulRow c.args.self.now) same (c.row-lawful.ensures.0 c.if-not-row-lawful.false))
+    subst (LawfulRow c.args.self.now) same (c.row_lawful.ensures.0 c.if-not-row_lawful.false))
     (cases_lt g c.loop-grade.grade)
 
 pub returns : goal.returns

@@ -12,8 +12,8 @@ row_splits c =
     let whole = c.requires.0.2 c.args.grade c.requires.1 in
     omega (arith, splits, whole, c.hundredths.ensures)
 
-pub overflow-sub-result : goal.overflow-sub-result
-overflow-sub-result c = omega (arith, row_splits c)
+pub overflow_sub-result : goal.overflow_sub-result
+overflow_sub-result c = omega (arith, row_splits c)
 
 pub returns : goal.returns
 returns c = record { value = omega (arith, row_splits c); small = omega arith }
