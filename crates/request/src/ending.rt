@@ -4,8 +4,9 @@ ghost use Rattle.lines.specs.Line.{said, line_at, rest_at, taken};
 ghost use Rattle.request.specs.Requests.{goes_on, read_end};
 ghost use Rattle.request.specs.Writing.{ReadsEnd};
 
+use crate::due::broken_rule;
 use lines::reading::{Line, Lines};
-use reading::rules::{ReadRefusal, Rule, fault_rule};
+use reading::rules::{ReadRefusal, Rule};
 
 // The rule that a line breaks which should not be there.
 fn goes_on(line: Line) -> Rule
@@ -13,7 +14,7 @@ fn goes_on(line: Line) -> Rule
 {
     match line {
         Line::Pair(_, _) => Rule::Unexpected,
-        Line::Fault(number) => fault_rule(number),
+        Line::Fault(number) => broken_rule(number),
     }
 }
 

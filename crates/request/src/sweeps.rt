@@ -7,8 +7,10 @@ ghost use Rattle.request.specs.Requests.{sweeps_of, read_sweeps};
 use crate::due::value_due;
 use lines::numbers::number;
 use lines::reading::Lines;
-use planner::plan::MOST_SWEEPS;
 use reading::rules::{ReadRefusal, Rule};
+
+// The largest number of sweeps.
+pub const MOST_SWEEPS: u64 = 1000;
 
 // The number of sweeps, and the line that names it.
 #[derive(Clone, Copy, PartialEq, Eq, Debug)]
@@ -20,7 +22,7 @@ pub struct SweepsLine {
 fn sweeps_of(value: &[u8]) -> Result<u32, Rule>
     ensures { result ≡ sweeps_of value.now }
 {
-    match number(value, u64::from(MOST_SWEEPS)) {
+    match number(value, MOST_SWEEPS) {
         Some(sweeps) => Ok(sweeps as u32),
         None => Err(Rule::OutOfRange),
     }

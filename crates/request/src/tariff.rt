@@ -11,7 +11,9 @@ use lines::numbers::number;
 use lines::reading::Lines;
 use reading::rules::{ReadRefusal, Rule};
 use reading::words::is_word;
-use tariffs::priced::MOST_RATE;
+
+// The highest rate of the priced tariff.
+pub const MOST_RATE: u64 = 1000;
 
 // The tariff that a request names.
 #[derive(Clone, Copy, PartialEq, Eq, Debug)]
@@ -29,7 +31,7 @@ fn priced_by(mut fields: Fields) -> Result<TariffChoice, Rule>
     if fields.next_field().is_some() {
         return Err(Rule::OutOfRange);
     }
-    match number(rate, u64::from(MOST_RATE)) {
+    match number(rate, MOST_RATE) {
         Some(rate) => Ok(TariffChoice::Priced(rate as u32)),
         None => Err(Rule::OutOfRange),
     }

@@ -2,8 +2,8 @@ use Rattle.std.proofs.Common.{subst, rules}
 use Rattle.pairtext.specs.Writing.{ReadsPair}
 use Rattle.pairtext.proofs.text.read_pair_into.Goals as goal
 
-pub returns-in-err-read : goal.returns-in-err-read
-returns-in-err-read c = record {
+pub returns-in_err-read : goal.returns-in_err-read
+returns-in_err-read c = record {
   answer = search rules;
   plant = search rules;
   rest = c.read_pair.ensures.rest;
