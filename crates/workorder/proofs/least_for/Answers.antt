@@ -6,10 +6,10 @@ use Rattle.workorder.specs.Orders.{max_parts}
 
 pub loop-part-preserved : goal.loop-part-preserved
 loop-part-preserved c = (
-  ends-below-more c.args.arcs.now c.args.portfolio c.loop-part.part c.loop-part.best c.ending-with.result c.lesser-best.result
-      c.loop-part.invariant.0 c.ending-with.ensures.least c.lesser-best.ensures,
-  lesser_at_most (c.args.portfolio * 2 ^ 32) c.loop-part.best c.ending-with.result c.lesser-best.result
-      c.loop-part.invariant.1 c.ending-with.ensures.small c.lesser-best.ensures,
+  ends-below-more c.args.arcs.now c.args.portfolio c.loop-part.part c.loop-part.best c.ending_with.result c.lesser-best.result
+      c.loop-part.invariant.0 c.ending_with.ensures.least c.lesser-best.ensures,
+  lesser_at_most (c.args.portfolio * 2 ^ 32) c.loop-part.best c.ending_with.result c.lesser-best.result
+      c.loop-part.invariant.1 c.ending_with.ensures.small c.lesser-best.ensures,
 )
 
 pub returns : goal.returns

@@ -4,12 +4,12 @@ use Rattle.workorder.specs.Orders.{LeastTable}
 use Rattle.std.proofs.Common.{arith}
 
 pub loop-portfolio-init : goal.loop-portfolio-init
-loop-portfolio-init c = right-first c.args.arcs.now c.first-table-table.result c.first-table-table.ensures
+loop-portfolio-init c = right-first c.args.arcs.now c.first_table-table.result c.first_table-table.ensures
 
 pub loop-portfolio-preserved : goal.loop-portfolio-preserved
 loop-portfolio-preserved c =
-    right-more c.args.arcs.now c.loop-portfolio.portfolio c.loop-portfolio.table c.least-for-least.result (omega arith)
-    c.loop-portfolio.invariant c.least-for-least.ensures.least c.least-for-least.ensures.small
+    right-more c.args.arcs.now c.loop-portfolio.portfolio c.loop-portfolio.table c.least_for-least.result (omega arith)
+    c.loop-portfolio.invariant c.least_for-least.ensures.least c.least_for-least.ensures.small
 
 pub returns : goal.returns
 returns c =

@@ -7,7 +7,7 @@ same_three p q r = cc
 
 pub returns : goal.returns
 returns c =
-    let circle = c.least-work-orders-in-circle.ensures.only 3 (Some 11) (omega arith) (rw c.circle.ensures figures.circle_both) in
-    let row = c.least-work-orders-in-row.ensures.only 3 (Some 891) (omega arith) (rw c.row.ensures figures.row_both) in
-    let closed = c.least-work-orders-in-closed.ensures.only 3 None (omega arith) (rw c.closed.ensures figures.closed_both) in
+    let circle = c.least_work_orders-in_circle.ensures.only 3 (Some 11) (omega arith) (rw c.circle.ensures figures.circle_both) in
+    let row = c.least_work_orders-in_row.ensures.only 3 (Some 891) (omega arith) (rw c.row.ensures figures.row_both) in
+    let closed = c.least_work_orders-in_closed.ensures.only 3 None (omega arith) (rw c.closed.ensures figures.closed_both) in
     record { figures = figures; found = same_three circle row closed }
