@@ -3,11 +3,11 @@ use workorder::MAX_PARTS;
 
 pub const MOST_LIFE: usize = 20;
 // In ten-thousandths.
-pub const MOST_THRESHOLD: u32 = interface::limits::MOST_THRESHOLD;
+pub const MOST_THRESHOLD: u32 = 10_000;
 
-pub const MOST_HAZARD: u32 = interface::limits::WHOLE;
+pub const MOST_HAZARD: u32 = 10_000;
 // The largest setup, alarm, surplus or arc, in cents.
-pub const MOST_CHARGE: u32 = interface::limits::MOST_CHARGE;
+pub const MOST_CHARGE: u32 = 1_000_000;
 
 pub const MOST_DARK: u32 = 10_000;
 // Room for an arc from the door and from each part to each part.
