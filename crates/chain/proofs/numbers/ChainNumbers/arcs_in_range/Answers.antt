@@ -11,9 +11,9 @@ no_arc = record { from = 0; to = 0; cents = 0 }
 pub loop-i-init : goal.loop-i-init
 loop-i-init c = none_dearer most_charge
 
-pub returns-then-self-i-gt-MOST-CHARGE : goal.returns-then-self-i-gt-MOST-CHARGE
+pub returns-then-self-i-gt-MOST_CHARGE : goal.returns-then-self-i-gt-MOST_CHARGE
 unfolding no_arc
-returns-then-self-i-gt-MOST-CHARGE c = (
+returns-then-self-i-gt-MOST_CHARGE c = (
   λ e. absurd (false≢true e),
   λ none. let n = c.args.self.now in absurd (omega (arith, none (get_or n.arcs c.loop-i.i no_arc) (in_take n.arcs n.arc_count c.loop-i.i no_arc (omega arith) (search rules)))),
 )

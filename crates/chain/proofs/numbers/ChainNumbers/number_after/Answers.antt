@@ -7,15 +7,15 @@ use Rattle.chain.specs.Over.{entry, product}
 use Rattle.chain.specs.Parts.{life}
 use Rattle.workorder.specs.Orders.{max_parts}
 
-pub overflow-mul-total : goal.overflow-mul-total
-overflow-mul-total c =
+pub overflow_mul-total : goal.overflow_mul-total
+overflow_mul-total c =
     let n = c.args.self.now in
     let d = entry c.args.starts.now in
     let i = c.loop-i.i in
     omega (arith, number_more n c.args.starts.now i c.loop-i.total c.loop-i.width c.loop-i.invariant.0 c.loop-i.invariant.1, number_few n d (i + 1) c.requires.0.0 c.requires.0.1 (λ j some most. c.requires.1 j some (omega arith)) (omega arith))
 
-pub overflow-add-total : goal.overflow-add-total
-overflow-add-total c =
+pub overflow_add-total : goal.overflow_add-total
+overflow_add-total c =
     let n = c.args.self.now in
     let d = entry c.args.starts.now in
     let i = c.loop-i.i in
@@ -24,8 +24,8 @@ overflow-add-total c =
 longer : (c : goal.After-life-width) → c.loop-i.width * c.life-width.result ≡ product (life c.args.self.now) (c.loop-i.i + 1)
 longer c = lives_more c.args.self.now c.loop-i.i c.loop-i.width c.life-width.result c.loop-i.invariant.0 c.life-width.ensures
 
-pub overflow-mul-width : goal.overflow-mul-width
-overflow-mul-width c = omega (arith, longer c, lives_few c.args.self.now (c.loop-i.i + 1) c.requires.0.0 c.requires.0.1 (omega arith))
+pub overflow_mul-width : goal.overflow_mul-width
+overflow_mul-width c = omega (arith, longer c, lives_few c.args.self.now (c.loop-i.i + 1) c.requires.0.0 c.requires.0.1 (omega arith))
 
 pub loop-i-preserved : goal.loop-i-preserved
 loop-i-preserved c = (longer c, number_more c.args.self.now c.args.starts.now c.loop-i.i c.loop-i.total c.loop-i.width c.loop-i.invariant.0 c.loop-i.invariant.1)
@@ -37,8 +37,8 @@ inside c =
     let all : c.loop-i.total ≡ number (life n) (entry c.args.starts.now) n.count = rw end at c.loop-i.invariant.1 in
     omega (arith, ap (λ z. (n.count + 1) * z) all, state_inside n (entry c.args.starts.now) c.args.failed c.requires.1 c.requires.2, states_fit n c.requires.0.0 c.requires.0.1)
 
-pub overflow-mul-result : goal.overflow-mul-result
-overflow-mul-result c = omega (arith, inside c)
+pub overflow_mul-result : goal.overflow_mul-result
+overflow_mul-result c = omega (arith, inside c)
 
-pub overflow-add-result-2 : goal.overflow-add-result-2
-overflow-add-result-2 c = omega (arith, inside c)
+pub overflow_add-result-2 : goal.overflow_add-result-2
+overflow_add-result-2 c = omega (arith, inside c)

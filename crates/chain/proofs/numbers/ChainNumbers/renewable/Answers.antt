@@ -3,16 +3,16 @@ use Rattle.chain.proofs.numbers.ChainNumbers.renewable.Goals as goal
 use Rattle.chain.specs.Chains.{hazards_at, survives}
 use Rattle.std.proofs.Common.{refl}
 
-pub returns-then-is-some : goal.returns-then-is-some
-returns-then-is-some c =
+pub returns-then-is_some : goal.returns-then-is_some
+returns-then-is_some c =
     (renewable-tests c.args.self.now c.args.least.now c.requires.0.0.0.1 c.requires.1
-    c.portfolio-count-everything.result c.hazards-when-new.result c.is-some.result c.survives.result
-    c.portfolio-count-everything.ensures.value c.is-some.ensures c.hazards-when-new.ensures c.survives.ensures).0 c.if-is-some.true
+    c.portfolio_count-everything.result c.hazards_when_new.result c.is_some.result c.survives.result
+    c.portfolio_count-everything.ensures.value c.is_some.ensures c.hazards_when_new.ensures c.survives.ensures).0 c.if-is_some.true
 
-pub returns-else-is-some : goal.returns-else-is-some
-returns-else-is-some c =
+pub returns-else-is_some : goal.returns-else-is_some
+returns-else-is_some c =
     let n = c.args.self.now in
     let h = hazards_at n (λ _. 0) in
     (renewable-tests n c.args.least.now c.requires.0.0.0.1 c.requires.1
-    c.portfolio-count-everything.result h c.is-some.result (survives n h)
-    c.portfolio-count-everything.ensures.value c.is-some.ensures refl refl).1 c.if-is-some.false
+    c.portfolio_count-everything.result h c.is_some.result (survives n h)
+    c.portfolio_count-everything.ensures.value c.is_some.ensures refl refl).1 c.if-is_some.false

@@ -8,14 +8,14 @@ use Rattle.chain.proofs.numbers.ChainNumbers.window.Goals.{After-hazard-hazard, 
 use Rattle.chain.specs.Parts.{hazard}
 use Rattle.chain.specs.Portfolios.{attended, start_age}
 
-pub returns-in-default : goal.returns-in-default
-returns-in-default c =
+pub returns-in_default : goal.returns-in_default
+returns-in_default c =
     let n = c.args.self.now in
     let s = c.args.state in
     let x = c.args.portfolio in
     let i = c.loop-i.i in
     let age = age_step n s i c.loop-i.rest c.life-life.result c.loop-i.invariant.0.left c.life-life.ensures in
-    let left = part_stuck n s x (i + 1) _ c.renews-renewed.result age c.renews-renewed.ensures c.in-default.ensures in
+    let left = part_stuck n s x (i + 1) _ c.renews-renewed.result age c.renews-renewed.ensures c.in_default.ensures in
     every_not (attended n s x) n.count (i + 1) (omega arith) (omega arith) left
 
 -- with the part of this turn, and its hazard
@@ -25,14 +25,14 @@ turn c =
     c.loop-i.i c.loop-i.rest c.loop-i.width c.loop-i.total c.loop-i.hazards c.life-life.result c.in-Some.start c.hazard-hazard.result c.renews-renewed.result
     c.loop-i.invariant.0 (omega arith) c.life-life.ensures c.renews-renewed.ensures c.in-Some.ensures c.hazard-hazard.ensures
 
-pub overflow-mul-total : goal.overflow-mul-total
-overflow-mul-total c = omega (arith, total-fits c.args.self.now c.requires.0 c.requires.1.0 c.args.state c.args.portfolio (c.loop-i.i + 1) _ _ _ _ (turn c).0 (omega arith))
+pub overflow_mul-total : goal.overflow_mul-total
+overflow_mul-total c = omega (arith, total-fits c.args.self.now c.requires.0 c.requires.1.0 c.args.state c.args.portfolio (c.loop-i.i + 1) _ _ _ _ (turn c).0 (omega arith))
 
-pub overflow-add-total : goal.overflow-add-total
-overflow-add-total c = omega (arith, total-fits c.args.self.now c.requires.0 c.requires.1.0 c.args.state c.args.portfolio (c.loop-i.i + 1) _ _ _ _ (turn c).0 (omega arith))
+pub overflow_add-total : goal.overflow_add-total
+overflow_add-total c = omega (arith, total-fits c.args.self.now c.requires.0 c.requires.1.0 c.args.state c.args.portfolio (c.loop-i.i + 1) _ _ _ _ (turn c).0 (omega arith))
 
-pub overflow-mul-width : goal.overflow-mul-width
-overflow-mul-width c = omega (arith, width_fits c.args.self.now c.requires.0 c.requires.1.0 c.args.state c.args.portfolio (c.loop-i.i + 1) _ _ _ _ (turn c).0 (omega arith))
+pub overflow_mul-width : goal.overflow_mul-width
+overflow_mul-width c = omega (arith, width_fits c.args.self.now c.requires.0 c.requires.1.0 c.args.state c.args.portfolio (c.loop-i.i + 1) _ _ _ _ (turn c).0 (omega arith))
 
 pub loop-i-preserved : goal.loop-i-preserved
 loop-i-preserved c =
@@ -51,8 +51,8 @@ loop-i-preserved c =
 all : (c : goal.After-loop-i) → SoFar c.args.self.now c.args.state c.args.portfolio c.args.self.now.count c.loop-i.rest c.loop-i.width c.loop-i.total c.loop-i.hazards
 all c = let end : c.loop-i.i ≡ c.args.self.now.count = omega arith in rw end at c.loop-i.invariant.0
 
-pub overflow-mul-result : goal.overflow-mul-result
-overflow-mul-result c = omega (arith, number_fits c.args.self.now c.requires.0 c.requires.1.0 c.args.state c.args.portfolio _ _ _ _ (all c))
+pub overflow_mul-result : goal.overflow_mul-result
+overflow_mul-result c = omega (arith, number_fits c.args.self.now c.requires.0 c.requires.1.0 c.args.state c.args.portfolio _ _ _ _ (all c))
 
 pub returns : goal.returns
 returns c =

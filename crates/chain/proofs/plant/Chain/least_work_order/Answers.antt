@@ -7,5 +7,5 @@ use Rattle.workorder.specs.Orders.{portfolios}
 pub returns : goal.returns
 returns c =
     let p = c.args.self.now in
-    let inside : c.args.portfolio < portfolios = omega (arith, c.portfolio-count.ensures.few) in
-    (λ _. (table-held (arcs_of p.numbers) p.least p.right).least c.args.portfolio inside, λ past. absurd (omega (arith, c.portfolio-count.ensures.value)))
+    let inside : c.args.portfolio < portfolios = omega (arith, c.portfolio_count.ensures.few) in
+    (λ _. (table-held (arcs_of p.numbers) p.least p.right).least c.args.portfolio inside, λ past. absurd (omega (arith, c.portfolio_count.ensures.value)))

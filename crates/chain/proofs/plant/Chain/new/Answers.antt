@@ -9,7 +9,7 @@ use Rattle.workorder.specs.Orders.{LeastTable}
 pub invariant-of-result : goal.invariant-of-result
 invariant-of-result c =
     let n = c.args.numbers in
-    let l = c.in_range.ensures.0 c.if-not-in-range.false in
+    let l = c.in_range.ensures.0 c.if-not-in_range.false in
     let table = c.least-work-orders-least.result in
     let all : n.arc_count - 0 ≡ n.arc_count = omega arith in
     let right : LeastTable (arcs_of n) table = subst (λ (k : ℕ). LeastTable (take k n.arcs) table) all c.least-work-orders-least.ensures.table in (

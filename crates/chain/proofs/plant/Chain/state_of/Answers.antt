@@ -11,6 +11,6 @@ pub returns : goal.returns
 returns c =
     let p = c.args.self.now in
     record {
-      value = state_there p.numbers c.args.number c.ages-in.result c.failed_in.result (omega (arith, p.counted)) c.ages-in.ensures c.failed_in.ensures;
+      value = state_there p.numbers c.args.number c.ages_in.result c.failed_in.result (omega (arith, p.counted)) c.ages_in.ensures c.failed_in.ensures;
       kept = without_loss p.numbers p.terms p.lives;
     }

@@ -14,8 +14,8 @@ decided c =
     let s = c.args.state in
     let x = c.args.portfolio in
     let inside : s < all_states n = omega (arith, p.counted) in
-    let listed : x < all_portfolios n = omega (arith, c.portfolio-count.ensures.value) in
-    let order : is_some (least_order p.least x) ≡ true = c.is-none.ensures ∙ ap not c.if-is-none.false in
+    let listed : x < all_portfolios n = omega (arith, c.portfolio_count.ensures.value) in
+    let order : is_some (least_order p.least x) ≡ true = c.is_none.ensures ∙ ap not c.if-is_none.false in
     let sum : c.in-Some.window.hazards ≡ hazard_sum n s x = c.in-Some.ensures.1.all in
     survival_decides n p.least s x inside listed (sym c.failure_renewed.ensures ∙ c.if-not-failure-renewed.false) c.in-Some.ensures.0 order ∙ ap (survives n) (sym sum) ∙ sym c.survives.ensures
 

@@ -2,7 +2,7 @@ use Rattle.chain.specs.Endings.{next-at, next-inside, outcome_listed, outcome_pa
 use Rattle.chain.specs.LawsLemmas.{feasible-facts, lawful_from}
 use Rattle.chain.specs.Starting.{starts_below}
 use Rattle.chain.proofs.plant.ChainPlant.outcome.Goals as goal
-use Rattle.chain.proofs.plant.ChainPlant.outcome.Goals.{in-0, in-default-k}
+use Rattle.chain.proofs.plant.ChainPlant.outcome.Goals.{in-0, in_default-k}
 use Rattle.chain.specs.Parts.{arcs_of}
 use Rattle.chain.specs.Portfolios.{start_age}
 use Rattle.workorder.proofs.WorkOrders.{table-held}
@@ -11,8 +11,8 @@ use Rattle.std.proofs.Common.{arith}
 pub returns-then-k-self : goal.returns-then-k-self
 returns-then-k-self c = let p = c.args.self.now in outcome_past p.numbers p.least c.args.state c.args.portfolio c.args.k c.if-k-self.true
 
-pub overflow-add-next : goal.overflow-add-next
-overflow-add-next c =
+pub overflow_add-next : goal.overflow_add-next
+overflow_add-next c =
     let p = c.args.self.now in
     let n = p.numbers in
     let s = c.args.state in
@@ -33,6 +33,6 @@ returns c =
     let is = c.in-Some.ensures.1 in
     let weight =
     weight-at n s x k c.in-Some.window is c.match-k.weight c.if-k-self.false
-    (λ none. elim c.match-k.branch [ in-0 w ↦ w.weight-is | in-default-k w ↦ absurd (omega arith) ])
-    (λ some. elim c.match-k.branch [ in-0 w ↦ absurd (omega arith) | in-default-k w ↦ w.weight-is ]) in
+    (λ none. elim c.match-k.branch [ in-0 w ↦ w.weight-is | in_default-k w ↦ absurd (omega arith) ])
+    (λ some. elim c.match-k.branch [ in-0 w ↦ absurd (omega arith) | in_default-k w ↦ w.weight-is ]) in
     outcome_listed n p.least s x k _ _ c.in-Some.ensures.0 c.if-k-self.false (next-at n s x k c.in-Some.window is) weight
