@@ -1,11 +1,11 @@
 -- The first greatest and the first least value of a table.
-use Rattle.std.proofs.Common.{◌≡◌, ℕ, zero, suc, ◌<◌, ◌≤◌, Bool, true, ◌⊎◌, List, [], ◌∷◌, map, length, Some, None, Option, sym, refl, ap, ◌∙◌, subst, inl, inr, ⊎_elim, arith}
+use Rattle.std.proofs.Common.{◌≡◌, ℕ, zero, suc, ◌≤◌, Bool, List, [], ◌∷◌, map, length, Some, None, Option, sym, subst, arith}
 use Rattle.std.specs.List.{slice_get}
 use Rattle.std.specs.Option.{option_map}
 use Rattle.std.proofs.lemmas.List.{length-map}
 use Rattle.interface.specs.Rows.{Row}
 use Rattle.interface.specs.Tariffs.{Scale, LawfulScale}
-use Rattle.lookahead.specs.Best.{Pick, first_best, Chosen, FirstBest, cheaper, dearer}
+use Rattle.lookahead.specs.Best.{first_best, FirstBest, cheaper, dearer}
 use Rattle.lookahead.specs.declared.best.Choice.{Choice}
 use Rattle.lookahead.specs.Choices.{pick}
 use Rattle.lookahead.proofs.Firsts.{first-best-law}

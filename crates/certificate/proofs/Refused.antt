@@ -6,7 +6,6 @@ use Rattle.interface.specs.Plants.{Model}
 use Rattle.interface.specs.Rows.{Row, reach}
 use Rattle.interface.specs.Tariffs.{Scale}
 use Rattle.lookahead.specs.Gains.{Within}
-use Rattle.certificate.specs.declared.refusal.Refusal.{Refusal}
 use Rattle.certificate.specs.declared.refusal.Refusal.TheVariants.{WrongLength, BeyondReach, Infeasible}
 use Rattle.certificate.specs.Certificates.{most_claim, named}
 use Rattle.certificate.specs.Recipes.{policy_fault, recipe_refusal}

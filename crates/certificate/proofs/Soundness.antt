@@ -1,11 +1,10 @@
 -- No test fails exactly when the certificate is sound.
-use Rattle.std.proofs.Common.{◌≡◌, ℕ, zero, suc, ◌+◌, ◌<◌, ◌≤◌, Bool, true, false, cond, ◌&&◌, eqb, leb, ◌⊎◌, List, [], ◌∷◌, map, length, get_or, Some, None, Option, sym, refl, ap, ◌∙◌, subst, inl, inr, ⊎_elim, arith}
+use Rattle.std.proofs.Common.{◌≡◌, ℕ, zero, suc, ◌<◌, ◌≤◌, Bool, true, false, cond, ◌&&◌, eqb, leb, List, [], ◌∷◌, length, get_or, Some, None, Option, sym, refl, ap, ◌∙◌, subst, arith}
 use Rattle.std.proofs.lemmas.Bool.{and_parts, and_from, leb-true, le-leb, eqb-true, eq-eqb, cond-true}
 use Rattle.interface.specs.Plants.{Model, Lawful}
 use Rattle.interface.specs.Rows.{Row, zeros, reach}
-use Rattle.interface.specs.Tariffs.{Scale, AtMost}
-use Rattle.lookahead.specs.Gains.{most_value, value_of, gain, Near, Within}
-use Rattle.certificate.specs.declared.refusal.Refusal.{Refusal}
+use Rattle.interface.specs.Tariffs.{Scale}
+use Rattle.lookahead.specs.Gains.{most_value, value_of, gain, Near}
 use Rattle.certificate.specs.declared.refusal.Refusal.TheVariants.{WrongLength, BeyondReach, Infeasible, LowBroken, HighBroken}
 use Rattle.certificate.specs.Certificates.{most_claim, named, Sound}
 use Rattle.certificate.specs.Refusals.{or_else, first_fault, each, value_fault, low_test, state_fault, level, refusal}

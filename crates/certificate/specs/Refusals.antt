@@ -1,5 +1,5 @@
 -- Why a certificate is refused: the first test that fails, with its number and its place.
-use Rattle.std.specs.Prelude.{◌≡◌, ℕ, zero, suc, Bool, true, false, cond, ◌&&◌, List, length, Some, None, Option, ◌==◌, nat_le}
+use Rattle.std.specs.Prelude.{ℕ, zero, suc, Bool, true, cond, ◌&&◌, List, length, Some, None, Option, ◌==◌, nat_le}
 use Rattle.interface.specs.Plants.{Model}
 use Rattle.interface.specs.Rows.{Row, reach}
 use Rattle.interface.specs.Tariffs.{Scale}

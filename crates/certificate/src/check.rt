@@ -22,7 +22,7 @@ pub const MOST_CLAIM: u64 = 100_000_000_000_000_000;
 
 // The first value beyond reach, by its state.
 pub(crate) fn value_beyond<T: Tariff>(tariff: &T, values: &[T::Amount]) -> Option<Refusal>
-    ensures { result ≡ first_fault (value_fault (scale tariff.now) (map row values.now)) (length values.now) }
+    ensures { result ≡ first_fault (value_fault (T.scale tariff.now) (map T.Tariff.row values.now)) (length values.now) }
 {
     for (s, value) in values.iter().enumerate() {
         if tariff.reach(*value) > MOST_VALUE {
@@ -40,8 +40,8 @@ pub(crate) fn gain_within<P: Plant, T: Tariff>(
     state: usize,
     portfolio: usize,
 ) -> Option<T::Amount>
-    requires { Within (model plant.now) (map row values.now) }
-    ensures { Answers row result ((model plant.now).feasible state portfolio) (gain (model plant.now) (scale tariff.now) (map row values.now) state portfolio) }
+    requires { Within (P.model plant.now) (map T.Tariff.row values.now) }
+    ensures { Answers T.Tariff.row result ((P.model plant.now).feasible state portfolio) (gain (P.model plant.now) (T.scale tariff.now) (map T.Tariff.row values.now) state portfolio) }
 {
     ValueTable::new(values).gain(plant, tariff, state, portfolio)
 }
@@ -55,8 +55,8 @@ fn low_holds_at<P: Plant, T: Tariff>(
     state: usize,
     portfolio: usize,
 ) -> bool
-    requires { Within (model plant.now) (map row values.now) }
-    ensures { result ≡ low_test (model plant.now) (scale tariff.now) (map row values.now) (row low) state portfolio }
+    requires { Within (P.model plant.now) (map T.Tariff.row values.now) }
+    ensures { result ≡ low_test (P.model plant.now) (T.scale tariff.now) (map T.Tariff.row values.now) (T.Tariff.row low) state portfolio }
 {
     match gain_within(plant, tariff, values, state, portfolio) {
         Some(gain) => tariff.at_most(low, gain),
@@ -72,8 +72,8 @@ fn low_holds<P: Plant, T: Tariff>(
     low: T::Amount,
     state: usize,
 ) -> bool
-    requires { Within (model plant.now) (map row values.now) }
-    ensures { result ≡ each (low_test (model plant.now) (scale tariff.now) (map row values.now) (row low) state) (model plant.now).portfolios }
+    requires { Within (P.model plant.now) (map T.Tariff.row values.now) }
+    ensures { result ≡ each (low_test (P.model plant.now) (T.scale tariff.now) (map T.Tariff.row values.now) (T.Tariff.row low) state) (P.model plant.now).portfolios }
 {
     for x in 0..plant.portfolios() {
         if !low_holds_at(plant, tariff, values, low, state, x) {
@@ -93,9 +93,9 @@ fn state_refusal<P: Plant, T: Tariff>(
     high: T::Amount,
     state: usize,
 ) -> Option<Refusal>
-    requires within { Within (model plant.now) (map row values.now) }
+    requires within { Within (P.model plant.now) (map T.Tariff.row values.now) }
     requires inside { state < length policy.now }
-    ensures { result ≡ state_fault (model plant.now) (scale tariff.now) (map row values.now) policy.now (row low) (row high) state }
+    ensures { result ≡ state_fault (P.model plant.now) (T.scale tariff.now) (map T.Tariff.row values.now) policy.now (T.Tariff.row low) (T.Tariff.row high) state }
 {
     let Some(gain) = gain_within(plant, tariff, values, state, usize::from(policy[state])) else {
         return Some(Refusal::Infeasible(state));
@@ -118,8 +118,8 @@ fn first_broken<P: Plant, T: Tariff>(
     low: T::Amount,
     high: T::Amount,
 ) -> Option<Refusal>
-    requires { Within (model plant.now) (map row values.now) }
-    ensures { result ≡ first_fault (state_fault (model plant.now) (scale tariff.now) (map row values.now) policy.now (row low) (row high)) (length policy.now) }
+    requires { Within (P.model plant.now) (map T.Tariff.row values.now) }
+    ensures { result ≡ first_fault (state_fault (P.model plant.now) (T.scale tariff.now) (map T.Tariff.row values.now) policy.now (T.Tariff.row low) (T.Tariff.row high)) (length policy.now) }
 {
     for state in 0..policy.len() {
         let broken = state_refusal(plant, tariff, values, policy, low, high, state);
@@ -132,7 +132,7 @@ fn first_broken<P: Plant, T: Tariff>(
 
 // Whether both tables have an entry for each state.
 pub(crate) fn level<P: Plant, A>(plant: &P, values: &[A], policy: &[u16]) -> bool
-    ensures { result ≡ (length values.now == (model plant.now).states && length policy.now == (model plant.now).states) }
+    ensures { result ≡ (length values.now == (P.model plant.now).states && length policy.now == (P.model plant.now).states) }
 {
     let states = plant.states();
     values.len() == states && policy.len() == states
@@ -140,7 +140,7 @@ pub(crate) fn level<P: Plant, A>(plant: &P, values: &[A], policy: &[u16]) -> boo
 
 // Whether both claims are within their reach.
 fn claims_near<T: Tariff>(tariff: &T, low: T::Amount, high: T::Amount) -> bool
-    ensures { result ≡ (nat_le (reach (row low)) most_claim && nat_le (reach (row high)) most_claim) }
+    ensures { result ≡ (nat_le (reach (T.Tariff.row low)) most_claim && nat_le (reach (T.Tariff.row high)) most_claim) }
 {
     tariff.reach(low) <= MOST_CLAIM && tariff.reach(high) <= MOST_CLAIM
 }
@@ -154,7 +154,7 @@ fn first_refusal<P: Plant, T: Tariff>(
     low: T::Amount,
     high: T::Amount,
 ) -> Option<Refusal>
-    ensures { result ≡ refusal (model plant.now) (scale tariff.now) (map row values.now) policy.now (row low) (row high) }
+    ensures { result ≡ refusal (P.model plant.now) (T.scale tariff.now) (map T.Tariff.row values.now) policy.now (T.Tariff.row low) (T.Tariff.row high) }
 {
     if !level(plant, values, policy) {
         return Some(Refusal::WrongLength);
@@ -178,8 +178,8 @@ pub fn check<P: Plant, T: Tariff>(
     low: T::Amount,
     high: T::Amount,
 ) -> Result<Finding<T::Amount>, Refusal>
-    ensures verdict { Verdict row (model plant.now) (scale tariff.now) (map row values.now) policy.now low high result }
-    ensures exact { ExactlySound row (model plant.now) (scale tariff.now) (map row values.now) policy.now low high result }
+    ensures verdict { Verdict T.Tariff.row (P.model plant.now) (T.scale tariff.now) (map T.Tariff.row values.now) policy.now low high result }
+    ensures exact { ExactlySound T.Tariff.row (P.model plant.now) (T.scale tariff.now) (map T.Tariff.row values.now) policy.now low high result }
 {
     if let Some(refusal) = first_refusal(plant, tariff, values, policy, low, high) {
         return Err(refusal);

@@ -19,7 +19,7 @@ pub struct Finding<A> {
 }
 
 pub(crate) fn greatest<T: Tariff>(tariff: &T, values: &[T::Amount]) -> Option<Choice<T::Amount>>
-    ensures { option_map (pick row) result ≡ first_best (dearer (scale tariff.now)) (slice_get (map row values.now)) (length values.now) }
+    ensures { option_map (pick T.Tariff.row) result ≡ first_best (dearer (T.scale tariff.now)) (slice_get (map T.Tariff.row values.now)) (length values.now) }
 {
     let mut top = None;
     for (s, value) in values.iter().enumerate() {
@@ -29,7 +29,7 @@ pub(crate) fn greatest<T: Tariff>(tariff: &T, values: &[T::Amount]) -> Option<Ch
 }
 
 pub(crate) fn least<T: Tariff>(tariff: &T, values: &[T::Amount]) -> Option<Choice<T::Amount>>
-    ensures { option_map (pick row) result ≡ first_best (cheaper (scale tariff.now)) (slice_get (map row values.now)) (length values.now) }
+    ensures { option_map (pick T.Tariff.row) result ≡ first_best (cheaper (T.scale tariff.now)) (slice_get (map T.Tariff.row values.now)) (length values.now) }
 {
     let mut bottom = None;
     for (s, value) in values.iter().enumerate() {

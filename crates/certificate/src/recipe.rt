@@ -26,7 +26,7 @@ pub struct Claims<A> {
 
 // The first state whose portfolio is not feasible.
 fn policy_refusal<P: Plant>(plant: &P, policy: &[u16]) -> Option<Refusal>
-    ensures { result ≡ first_fault (policy_fault (model plant.now) policy.now) (length policy.now) }
+    ensures { result ≡ first_fault (policy_fault (P.model plant.now) policy.now) (length policy.now) }
 {
     for state in 0..policy.len() {
         if !plant.feasible(state, policy[state] as usize) {
@@ -43,8 +43,8 @@ fn state_low<P: Plant, T: Tariff>(
     values: &[T::Amount],
     state: usize,
 ) -> Option<T::Amount>
-    requires { Within (model plant.now) (map row values.now) }
-    ensures { option_map row result ≡ state_low (model plant.now) (scale tariff.now) (map row values.now) state }
+    requires { Within (P.model plant.now) (map T.Tariff.row values.now) }
+    ensures { option_map T.Tariff.row result ≡ state_low (P.model plant.now) (T.scale tariff.now) (map T.Tariff.row values.now) state }
 {
     match ValueTable::new(values).least_gain(plant, tariff, state) {
         Some(choice) => Some(choice.amount),
@@ -58,8 +58,8 @@ fn lowest<P: Plant, T: Tariff>(
     tariff: &T,
     values: &[T::Amount],
 ) -> Option<Choice<T::Amount>>
-    requires { Within (model plant.now) (map row values.now) }
-    ensures { option_map (pick row) result ≡ first_best (cheaper (scale tariff.now)) (state_low (model plant.now) (scale tariff.now) (map row values.now)) (length values.now) }
+    requires { Within (P.model plant.now) (map T.Tariff.row values.now) }
+    ensures { option_map (pick T.Tariff.row) result ≡ first_best (cheaper (T.scale tariff.now)) (state_low (P.model plant.now) (T.scale tariff.now) (map T.Tariff.row values.now)) (length values.now) }
 {
     let mut low = None;
     for state in 0..values.len() {
@@ -76,8 +76,8 @@ fn highest<P: Plant, T: Tariff>(
     values: &[T::Amount],
     policy: &[u16],
 ) -> Option<Choice<T::Amount>>
-    requires { Within (model plant.now) (map row values.now) }
-    ensures { option_map (pick row) result ≡ first_best (dearer (scale tariff.now)) (policy_gain (model plant.now) (scale tariff.now) (map row values.now) policy.now) (length policy.now) }
+    requires { Within (P.model plant.now) (map T.Tariff.row values.now) }
+    ensures { option_map (pick T.Tariff.row) result ≡ first_best (dearer (T.scale tariff.now)) (policy_gain (P.model plant.now) (T.scale tariff.now) (map T.Tariff.row values.now) policy.now) (length policy.now) }
 {
     let mut high = None;
     for state in 0..policy.len() {
@@ -94,7 +94,7 @@ fn first_refusal<P: Plant, T: Tariff>(
     values: &[T::Amount],
     policy: &[u16],
 ) -> Option<Refusal>
-    ensures { result ≡ recipe_refusal (model plant.now) (scale tariff.now) (map row values.now) policy.now }
+    ensures { result ≡ recipe_refusal (P.model plant.now) (T.scale tariff.now) (map T.Tariff.row values.now) policy.now }
 {
     if !level(plant, values, policy) {
         return Some(Refusal::WrongLength);
@@ -113,7 +113,7 @@ pub fn recipe<P: Plant, T: Tariff>(
     values: &[T::Amount],
     policy: &[u16],
 ) -> Result<Claims<T::Amount>, Refusal>
-    ensures { Recipe row (model plant.now) (scale tariff.now) (map row values.now) policy.now result }
+    ensures { Recipe T.Tariff.row (P.model plant.now) (T.scale tariff.now) (map T.Tariff.row values.now) policy.now result }
 {
     if let Some(refusal) = first_refusal(plant, tariff, values, policy) {
         return Err(refusal);

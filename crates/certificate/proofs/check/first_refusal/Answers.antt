@@ -1,4 +1,4 @@
-use Rattle.std.proofs.Common.{◌≡◌, map, length, is_some, Some, None, sym, ap, ◌∙◌}
+use Rattle.std.proofs.Common.{map, length, is_some, Some, sym, ap, ◌∙◌}
 use Rattle.std.proofs.lemmas.Bool.{cond-false}
 use Rattle.certificate.specs.declared.refusal.Refusal.TheVariants.{BeyondReach}
 use Rattle.certificate.specs.Refusals.{level, first_fault, value_fault, state_fault, or_else}
@@ -13,35 +13,35 @@ returns-then-not-level g c =
     let ps = c.args.policy.now in
     sym (cond-false (level m (map g.T.Tariff.row xs) ps) _ _ (level_map g.T.Tariff.row m xs ps ∙ sym c.level.ensures ∙ c.if-not-level.true))
 
-pub returns-then-not-claims-near : goal.returns-then-not-claims-near
-returns-then-not-claims-near g c =
+pub returns-then-not-claims_near : goal.returns-then-not-claims_near
+returns-then-not-claims_near g c =
     let row = g.T.Tariff.row in
     let same = sym c.level.ensures ∙ c.if-not-level.false in
-    let far = sym c.claims-near.ensures ∙ c.if-not-claims-near.true in
+    let far = sym c.claims_near.ensures ∙ c.if-not-claims_near.true in
     ap (λ n. Some (BeyondReach n)) c.states.ensures
     ∙ sym (refused-claim row (g.P.Plant.model c.args.plant.now) c.args.values.now c.args.policy.now same (g.T.Tariff.scale c.args.tariff.now) (row c.args.low) (row c.args.high) far)
 
-pub returns-then-is-some : goal.returns-then-is-some
-returns-then-is-some g c =
+pub returns-then-is_some : goal.returns-then-is_some
+returns-then-is_some g c =
     let row = g.T.Tariff.row in
     let m = g.P.Plant.model c.args.plant.now in
     let t = g.T.Tariff.scale c.args.tariff.now in
     let xs = c.args.values.now in
     let ps = c.args.policy.now in
     let same = sym c.level.ensures ∙ c.if-not-level.false in
-    let near = sym c.claims-near.ensures ∙ c.if-not-claims-near.false in
-    let is = c.value-beyond-beyond.ensures in
+    let near = sym c.claims_near.ensures ∙ c.if-not-claims_near.false in
+    let is = c.value_beyond-beyond.ensures in
     is
     ∙ sym (refused-later row m xs ps same t (row c.args.low) (row c.args.high) near
     ∙ or_first (first_fault (value_fault t (map row xs)) (length xs)) (first_fault (state_fault m t (map row xs) ps (row c.args.low) (row c.args.high)) (length ps))
-    (sym (ap is_some is) ∙ sym c.is-some.ensures ∙ c.if-is-some.true))
+    (sym (ap is_some is) ∙ sym c.is_some.ensures ∙ c.if-is_some.true))
 
-pub first-broken-requires : goal.first-broken-requires
-first-broken-requires g c =
+pub first_broken-requires : goal.first_broken-requires
+first_broken-requires g c =
     let row = g.T.Tariff.row in
     let same = sym c.level.ensures ∙ c.if-not-level.false in
-    let none = none_of c.value-beyond-beyond.result (sym c.is-some.ensures ∙ c.if-is-some.false) in
-    within-from row (g.P.Plant.model c.args.plant.now) c.args.values.now c.args.policy.now same (g.T.Tariff.scale c.args.tariff.now) (sym c.value-beyond-beyond.ensures ∙ none)
+    let none = none_of c.value_beyond-beyond.result (sym c.is_some.ensures ∙ c.if-is_some.false) in
+    within-from row (g.P.Plant.model c.args.plant.now) c.args.values.now c.args.policy.now same (g.T.Tariff.scale c.args.tariff.now) (sym c.value_beyond-beyond.ensures ∙ none)
 
 pub returns : goal.returns
 returns g c =
@@ -51,8 +51,8 @@ returns g c =
     let xs = c.args.values.now in
     let ps = c.args.policy.now in
     let same = sym c.level.ensures ∙ c.if-not-level.false in
-    let near = sym c.claims-near.ensures ∙ c.if-not-claims-near.false in
-    let none = sym c.value-beyond-beyond.ensures ∙ none_of c.value-beyond-beyond.result (sym c.is-some.ensures ∙ c.if-is-some.false) in
-    c.first-broken.ensures
+    let near = sym c.claims_near.ensures ∙ c.if-not-claims_near.false in
+    let none = sym c.value_beyond-beyond.ensures ∙ none_of c.value_beyond-beyond.result (sym c.is_some.ensures ∙ c.if-is_some.false) in
+    c.first_broken.ensures
     ∙ sym (refused-later row m xs ps same t (row c.args.low) (row c.args.high) near
     ∙ ap (λ z. or_else z (first_fault (state_fault m t (map row xs) ps (row c.args.low) (row c.args.high)) (length ps))) none)

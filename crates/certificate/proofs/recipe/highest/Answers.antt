@@ -1,4 +1,4 @@
-use Rattle.std.proofs.Common.{◌≡◌, map, sym, ap, ◌∙◌}
+use Rattle.std.proofs.Common.{map, sym, ap, ◌∙◌}
 use Rattle.std.specs.Option.{option_map}
 use Rattle.lookahead.specs.Best.{better, first_best, dearer}
 use Rattle.lookahead.proofs.Leasts.{first_best_more}
@@ -12,7 +12,7 @@ loop-state-preserved g c =
     let t = g.T.Tariff.scale c.args.tariff.now in
     let f = policy_gain (g.P.Plant.model c.args.plant.now) t (map row c.args.values.now) c.args.policy.now in
     let s = c.loop-state.state in
-    c.keep-greatest-high.ensures
-    ∙ ap (λ z. better (dearer t) z s (option_map row c.gain-within-next.result)) c.loop-state.invariant
-    ∙ ap (better (dearer t) (first_best (dearer t) f s) s) (answered row c.gain-within-next.result _ _ c.gain-within-next.ensures)
+    c.keep_greatest-high.ensures
+    ∙ ap (λ z. better (dearer t) z s (option_map row c.gain_within-next.result)) c.loop-state.invariant
+    ∙ ap (better (dearer t) (first_best (dearer t) f s) s) (answered row c.gain_within-next.result _ _ c.gain_within-next.ensures)
     ∙ sym (first_best_more (dearer t) f s)

@@ -1,4 +1,4 @@
-use Rattle.std.proofs.Common.{◌≡◌, cond, Some, None, sym, ap, ◌∙◌}
+use Rattle.std.proofs.Common.{cond, Some, None, sym, ap, ◌∙◌}
 use Rattle.certificate.specs.declared.refusal.Refusal.TheVariants.{Infeasible}
 use Rattle.certificate.specs.Recipes.{policy_fault}
 use Rattle.certificate.proofs.Faults.{fault-at, fault-more}

@@ -16,7 +16,7 @@ lowest-requires g c =
     let t = g.T.Tariff.scale c.args.tariff.now in
     let xs = c.args.values.now in
     let ps = c.args.policy.now in
-    let ready = fitting_from row m t xs ps (sym c.first-refusal.ensures ∙ c.in-default.is) in
+    let ready = fitting_from row m t xs ps (sym c.first_refusal.ensures ∙ c.in_default.is) in
     ready.within
 
 pub highest-requires : goal.highest-requires
@@ -26,40 +26,40 @@ highest-requires g c =
     let t = g.T.Tariff.scale c.args.tariff.now in
     let xs = c.args.values.now in
     let ps = c.args.policy.now in
-    let ready = fitting_from row m t xs ps (sym c.first-refusal.ensures ∙ c.in-default.is) in
+    let ready = fitting_from row m t xs ps (sym c.first_refusal.ensures ∙ c.in_default.is) in
     ready.within
 
-pub returns-in-default-lowest : goal.returns-in-default-lowest
-returns-in-default-lowest g c =
+pub returns-in_default-lowest : goal.returns-in_default-lowest
+returns-in_default-lowest g c =
     let row = g.T.Tariff.row in
     let m = g.P.Plant.model c.args.plant.now in
     let t = g.T.Tariff.scale c.args.tariff.now in
     let xs = c.args.values.now in
     let ps = c.args.policy.now in
-    let ready = fitting_from row m t xs ps (sym c.first-refusal.ensures ∙ c.in-default.is) in
+    let ready = fitting_from row m t xs ps (sym c.first_refusal.ensures ∙ c.in_default.is) in
     let lawful = g.met.P.Plant.lawful c.args.plant.now in
     let scaled = g.met.T.Tariff.lawful c.args.tariff.now in
     let fit = fits_map row t.places (g.met.T.Tariff.fits c.args.tariff.now) xs in
     let long = ready.within.long in
     let many : length xs ≡ m.states = sym (length-map xs row) ∙ long in
     let low-law = subst (FirstBest (cheaper t) (state_low m t (map row xs)) m.states) (sym (c.lowest.ensures ∙ ap (first_best (cheaper t) (state_low m t (map row xs))) many)) (lowest-law m lawful t scaled (map row xs) long fit m.states) in
-    absurd (lowest-some m lawful t scaled (map row xs) long fit (subst (λ o. FirstBest (cheaper t) (state_low m t (map row xs)) m.states (option_map (pick row) o)) c.in-default-lowest.is low-law))
+    absurd (lowest-some m lawful t scaled (map row xs) long fit (subst (λ o. FirstBest (cheaper t) (state_low m t (map row xs)) m.states (option_map (pick row) o)) c.in_default-lowest.is low-law))
 
-pub returns-in-default-highest : goal.returns-in-default-highest
-returns-in-default-highest g c =
+pub returns-in_default-highest : goal.returns-in_default-highest
+returns-in_default-highest g c =
     let row = g.T.Tariff.row in
     let m = g.P.Plant.model c.args.plant.now in
     let t = g.T.Tariff.scale c.args.tariff.now in
     let xs = c.args.values.now in
     let ps = c.args.policy.now in
-    let ready = fitting_from row m t xs ps (sym c.first-refusal.ensures ∙ c.in-default.is) in
+    let ready = fitting_from row m t xs ps (sym c.first_refusal.ensures ∙ c.in_default.is) in
     let lawful = g.met.P.Plant.lawful c.args.plant.now in
     let scaled = g.met.T.Tariff.lawful c.args.tariff.now in
     let fit = fits_map row t.places (g.met.T.Tariff.fits c.args.tariff.now) xs in
     let long = ready.within.long in
     let many : length xs ≡ m.states = sym (length-map xs row) ∙ long in
     let high-law = subst (FirstBest (dearer t) (policy_gain m t (map row xs) ps) m.states) (sym (c.highest.ensures ∙ ap (first_best (dearer t) (policy_gain m t (map row xs) ps)) ready.policy)) (highest-law m lawful t scaled (map row xs) long fit ps ready.feasible m.states) in
-    absurd (highest-some m lawful t scaled (map row xs) long fit ps ready.feasible (subst (λ o. FirstBest (dearer t) (policy_gain m t (map row xs) ps) m.states (option_map (pick row) o)) c.in-default-highest.is high-law))
+    absurd (highest-some m lawful t scaled (map row xs) long fit ps ready.feasible (subst (λ o. FirstBest (dearer t) (policy_gain m t (map row xs) ps) m.states (option_map (pick row) o)) c.in_default-highest.is high-law))
 
 pub returns : goal.returns
 returns g c =
@@ -68,7 +68,7 @@ returns g c =
     let t = g.T.Tariff.scale c.args.tariff.now in
     let xs = c.args.values.now in
     let ps = c.args.policy.now in
-    let ready = fitting_from row m t xs ps (sym c.first-refusal.ensures ∙ c.in-default.is) in
+    let ready = fitting_from row m t xs ps (sym c.first_refusal.ensures ∙ c.in_default.is) in
     let lawful = g.met.P.Plant.lawful c.args.plant.now in
     let scaled = g.met.T.Tariff.lawful c.args.tariff.now in
     let fit = fits_map row t.places (g.met.T.Tariff.fits c.args.tariff.now) xs in
@@ -78,7 +78,7 @@ returns g c =
     let high-law = subst (FirstBest (dearer t) (policy_gain m t (map row xs) ps) m.states) (sym (c.highest.ensures ∙ ap (first_best (dearer t) (policy_gain m t (map row xs) ps)) ready.policy)) (highest-law m lawful t scaled (map row xs) long fit ps ready.feasible m.states) in
     let low = c.in-Some-lowest.low in
     let high = c.in-Some-highest.high in (
-      sym c.first-refusal.ensures ∙ c.in-default.is,
+      sym c.first_refusal.ensures ∙ c.in_default.is,
       lowest-from m lawful t scaled (map row xs) long fit low.at (row low.amount) (subst (λ o. FirstBest (cheaper t) (state_low m t (map row xs)) m.states (option_map (pick row) o)) c.in-Some-lowest.is low-law),
       highest-from m lawful t scaled (map row xs) long fit ps ready.feasible high.at (row high.amount) (subst (λ o. FirstBest (dearer t) (policy_gain m t (map row xs) ps) m.states (option_map (pick row) o)) c.in-Some-highest.is high-law),
     )

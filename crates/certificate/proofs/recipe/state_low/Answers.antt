@@ -13,7 +13,7 @@ returns-in-Some g c =
     let t = g.T.Tariff.scale c.args.tariff.now in
     let same = c.new.ensures in
     let within = subst (λ xs. Within m (map row xs)) (sym same) c.requires in
-    let least = subst (λ xs. option_map (pick row) c.least-gain.result ≡ first_best (cheaper t) (where_feasible m (gain m t (map row xs)) c.args.state) m.portfolios) same (c.least-gain.ensures.within within) in
+    let least = subst (λ xs. option_map (pick row) c.least_gain.result ≡ first_best (cheaper t) (where_feasible m (gain m t (map row xs)) c.args.state) m.portfolios) same (c.least_gain.ensures.within within) in
     sym (ap (λ o. row_of (option_map (pick row) o)) c.in-Some.is) ∙ ap row_of least
 
 pub returns-in-None : goal.returns-in-None
@@ -23,5 +23,5 @@ returns-in-None g c =
     let t = g.T.Tariff.scale c.args.tariff.now in
     let same = c.new.ensures in
     let within = subst (λ xs. Within m (map row xs)) (sym same) c.requires in
-    let least = subst (λ xs. option_map (pick row) c.least-gain.result ≡ first_best (cheaper t) (where_feasible m (gain m t (map row xs)) c.args.state) m.portfolios) same (c.least-gain.ensures.within within) in
+    let least = subst (λ xs. option_map (pick row) c.least_gain.result ≡ first_best (cheaper t) (where_feasible m (gain m t (map row xs)) c.args.state) m.portfolios) same (c.least_gain.ensures.within within) in
     sym (ap (λ o. row_of (option_map (pick row) o)) c.in-None.is) ∙ ap row_of least
