@@ -13,7 +13,7 @@ use lookahead::table::ValueTable;
 
 // Zero rows everywhere.
 pub(crate) fn clear<T: Tariff>(tariff: &T, table: &mut [T::Amount])
-    ensures { map row table.new ≡ blank (scale tariff.now) (length table.old) }
+    ensures { map T.Tariff.row table.new ≡ blank (T.scale tariff.now) (length table.old) }
 {
     for cell in table.iter_mut() {
         *cell = tariff.zero();
@@ -35,9 +35,9 @@ pub(crate) fn least_ahead<P: Plant, T: Tariff>(
     values: &[T::Amount],
     state: usize,
 ) -> Choice<T::Amount>
-    requires within { Within (model plant.now) (map row values.now) }
-    requires inside { state < (model plant.now).states }
-    ensures { LeastAhead (model plant.now) (scale tariff.now) (map row values.now) state result.at (row result.amount) }
+    requires within { Within (P.model plant.now) (map T.Tariff.row values.now) }
+    requires inside { state < (P.model plant.now).states }
+    ensures { LeastAhead (P.model plant.now) (T.scale tariff.now) (map T.Tariff.row values.now) state result.at (T.Tariff.row result.amount) }
 {
     let Some(choice) = ValueTable::new(values).least_look_ahead(plant, tariff, state) else {
         unreachable()
@@ -47,8 +47,8 @@ pub(crate) fn least_ahead<P: Plant, T: Tariff>(
 
 // The difference of two amounts whose reaches are small.
 fn apart<T: Tariff>(tariff: &T, a: T::Amount, b: T::Amount) -> T::Amount
-    requires { reach (row a) + reach (row b) ≤ most_reach }
-    ensures { row result ≡ minus (row a) (row b) }
+    requires { reach (T.Tariff.row a) + reach (T.Tariff.row b) ≤ most_reach }
+    ensures { T.Tariff.row result ≡ minus (T.Tariff.row a) (T.Tariff.row b) }
 {
     let Some(difference) = tariff.difference(a, b) else {
         unreachable()
@@ -63,9 +63,9 @@ fn least_share<P: Plant, T: Tariff>(
     values: &[T::Amount],
     state: usize,
 ) -> T::Amount
-    requires within { Within (model plant.now) (map row values.now) }
-    requires inside { state < (model plant.now).states }
-    ensures { Shared (model plant.now) (scale tariff.now) (map row values.now) state (row result) }
+    requires within { Within (P.model plant.now) (map T.Tariff.row values.now) }
+    requires inside { state < (P.model plant.now).states }
+    ensures { Shared (P.model plant.now) (T.scale tariff.now) (map T.Tariff.row values.now) state (T.Tariff.row result) }
 {
     tariff.share(least_ahead(plant, tariff, values, state).amount)
 }
@@ -77,9 +77,9 @@ fn sweep_into<P: Plant, T: Tariff>(
     values: &[T::Amount],
     working: &mut [T::Amount],
 ) -> Option<usize>
-    requires within { Within (model plant.now) (map row values.now) }
-    requires long { length working.old ≡ (model plant.now).states }
-    ensures { MatchOption result (Sweep (model plant.now) (scale tariff.now) (map row values.now) (map row working.new) × Near (map row working.new)) (Stuck (model plant.now) (scale tariff.now) (map row values.now)) }
+    requires within { Within (P.model plant.now) (map T.Tariff.row values.now) }
+    requires long { length working.old ≡ (P.model plant.now).states }
+    ensures { MatchOption result (Sweep (P.model plant.now) (T.scale tariff.now) (map T.Tariff.row values.now) (map T.Tariff.row working.new) × Near (map T.Tariff.row working.new)) (Stuck (P.model plant.now) (T.scale tariff.now) (map T.Tariff.row values.now)) }
 {
     let base = least_share(plant, tariff, values, 0);
     for state in 0..working.len() {
@@ -99,9 +99,9 @@ pub(crate) fn sweep<P: Plant, T: Tariff>(
     values: &mut [T::Amount],
     working: &mut [T::Amount],
 ) -> Option<usize>
-    requires within { Within (model plant.now) (map row values.old) }
-    requires long { length working.old ≡ (model plant.now).states }
-    ensures { MatchOption result (Sweep (model plant.now) (scale tariff.now) (map row values.old) (map row values.new) × Near (map row values.new)) (λ s. Stuck (model plant.now) (scale tariff.now) (map row values.old) s × (values.new ≡ values.old)) }
+    requires within { Within (P.model plant.now) (map T.Tariff.row values.old) }
+    requires long { length working.old ≡ (P.model plant.now).states }
+    ensures { MatchOption result (Sweep (P.model plant.now) (T.scale tariff.now) (map T.Tariff.row values.old) (map T.Tariff.row values.new) × Near (map T.Tariff.row values.new)) (λ s. Stuck (P.model plant.now) (T.scale tariff.now) (map T.Tariff.row values.old) s × (values.new ≡ values.old)) }
 {
     let stuck = sweep_into(plant, tariff, values, working);
     if stuck.is_none() {
@@ -118,9 +118,9 @@ pub(crate) fn sweep_all<P: Plant, T: Tariff>(
     values: &mut [T::Amount],
     working: &mut [T::Amount],
 ) -> Option<usize>
-    requires zero { map row values.old ≡ blank (scale tariff.now) (model plant.now).states }
-    requires long { length working.old ≡ (model plant.now).states }
-    ensures { MatchOption result (Swept (model plant.now) (scale tariff.now) sweeps (map row values.new)) (λ s. (k : ℕ) × (k < sweeps) × Swept (model plant.now) (scale tariff.now) k (map row values.new) × Stuck (model plant.now) (scale tariff.now) (map row values.new) s) }
+    requires zero { map T.Tariff.row values.old ≡ blank (T.scale tariff.now) (P.model plant.now).states }
+    requires long { length working.old ≡ (P.model plant.now).states }
+    ensures { MatchOption result (Swept (P.model plant.now) (T.scale tariff.now) sweeps (map T.Tariff.row values.new)) (λ s. (k : ℕ) × (k < sweeps) × Swept (P.model plant.now) (T.scale tariff.now) k (map T.Tariff.row values.new) × Stuck (P.model plant.now) (T.scale tariff.now) (map T.Tariff.row values.new) s) }
 {
     for _done in 0..sweeps {
         let stuck = sweep(plant, tariff, values, working);
@@ -138,9 +138,9 @@ pub(crate) fn choose<P: Plant, T: Tariff>(
     values: &[T::Amount],
     policy: &mut [u16],
 )
-    requires within { Within (model plant.now) (map row values.now) }
-    requires long { length policy.old ≡ (model plant.now).states }
-    ensures { Chooses (model plant.now) (scale tariff.now) (map row values.now) policy.new }
+    requires within { Within (P.model plant.now) (map T.Tariff.row values.now) }
+    requires long { length policy.old ≡ (P.model plant.now).states }
+    ensures { Chooses (P.model plant.now) (T.scale tariff.now) (map T.Tariff.row values.now) policy.new }
 {
     for state in 0..policy.len() {
         let least = least_ahead(plant, tariff, values, state);

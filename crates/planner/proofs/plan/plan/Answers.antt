@@ -14,6 +14,6 @@ only row m t n b b' (Err e) h = tt
 
 pub returns : goal.returns
 returns g c = record {
-  answer = c.plan-tables.ensures;
-  only = only g.T.Tariff.row (g.P.Plant.model c.args.plant.now) (g.T.Tariff.scale c.args.tariff.now) c.args.sweeps _ _ c.plan-tables.result c.plan-tables.ensures;
+  answer = c.plan_tables.ensures;
+  only = only g.T.Tariff.row (g.P.Plant.model c.args.plant.now) (g.T.Tariff.scale c.args.tariff.now) c.args.sweeps _ _ c.plan_tables.result c.plan_tables.ensures;
 }

@@ -13,14 +13,14 @@ sweep-stuck-requires g c = record {
   long = omega (arith, c.requires.long);
 }
 
-pub returns-then-is-some : goal.returns-then-is-some
-returns-then-is-some g c =
+pub returns-then-is_some : goal.returns-then-is_some
+returns-then-is_some g c =
     let m = g.P.Plant.model c.args.plant.now in
     let t = g.T.Tariff.scale c.args.tariff.now in
     let row = g.T.Tariff.row in
     cases_some c.sweep-stuck.result _ _ _
     (λ s. (k : ℕ) × (k < c.args.sweeps) × Swept m t k (map row c.sweep-stuck.new.values) × Stuck m t (map row c.sweep-stuck.new.values) s)
-    (sym c.is-some.ensures ∙ c.if-is-some.true)
+    (sym c.is_some.ensures ∙ c.if-is_some.true)
     (λ s h. (
       c.loop-done.-done,
       c.loop-done-test.true,
@@ -33,7 +33,7 @@ pub loop-done-preserved : goal.loop-done-preserved
 loop-done-preserved g c =
     let m = g.P.Plant.model c.args.plant.now in
     let t = g.T.Tariff.scale c.args.tariff.now in
-    let done = cases_none c.sweep-stuck.result _ _ (sym c.is-some.ensures ∙ c.if-is-some.false) c.sweep-stuck.ensures in
+    let done = cases_none c.sweep-stuck.result _ _ (sym c.is_some.ensures ∙ c.if-is_some.false) c.sweep-stuck.ensures in
     swept_more m t c.loop-done.-done _ _ c.loop-done.invariant done.0 done.1
 
 pub returns : goal.returns

@@ -15,19 +15,19 @@ apart-value-requires g c =
     let t = g.T.Tariff.scale c.args.tariff.now in
     let fit = fits_map row t.places (g.met.T.Tariff.fits c.args.tariff.now) c.args.values.now in
     let near = shared_reach m (g.met.P.Plant.lawful c.args.plant.now) t (g.met.T.Tariff.lawful c.args.tariff.now) (map row c.args.values.now) c.requires.within fit in
-    omega (arith, near c.loop-state.state (row c.least-share.result) c.least-share.ensures, near 0 (row c.least-share-base.result) c.least-share-base.ensures)
+    omega (arith, near c.loop-state.state (row c.least_share.result) c.least_share.ensures, near 0 (row c.least_share-base.result) c.least_share-base.ensures)
 
-pub returns-then-reach-gt-MOST-VALUE : goal.returns-then-reach-gt-MOST-VALUE
-returns-then-reach-gt-MOST-VALUE g c =
+pub returns-then-reach-gt-MOST_VALUE : goal.returns-then-reach-gt-MOST_VALUE
+returns-then-reach-gt-MOST_VALUE g c =
     let row = g.T.Tariff.row in
     record {
       inside = omega arith;
       value = row c.apart-value.result;
       new = record {
-        own = row c.least-share.result;
-        base = row c.least-share-base.result;
-        own_is = c.least-share.ensures;
-        base_is = c.least-share-base.ensures;
+        own = row c.least_share.result;
+        base = row c.least_share-base.result;
+        own_is = c.least_share.ensures;
+        base_is = c.least_share-base.ensures;
         is = c.apart-value.ensures;
       };
       far = omega arith;
@@ -45,10 +45,10 @@ loop-state-preserved g c =
     let v = c.apart-value.result in
     let inside : s < length ws = omega arith in
     let new : NewValue m t vs s (row v) = record {
-      own = row c.least-share.result;
-      base = row c.least-share-base.result;
-      own_is = c.least-share.ensures;
-      base_is = c.least-share-base.ensures;
+      own = row c.least_share.result;
+      base = row c.least_share-base.result;
+      own_is = c.least_share.ensures;
+      base_is = c.least_share-base.ensures;
       is = c.apart-value.ensures;
     } in
     let near : reach (row v) ≤ most_value = omega arith in
