@@ -21,7 +21,7 @@ use Rattle.reading.specs.declared.keys.Key.{Key}
 use Rattle.reading.specs.declared.keys.Key.TheVariants.{Kind as KindKey, Tariff, Sweeps, Other}
 use Rattle.reading.specs.declared.rules.ReadRefusal.{ReadRefusal}
 use Rattle.reading.specs.declared.rules.Rule.{Rule}
-use Rattle.reading.specs.declared.rules.Rule.TheVariants.{Unexpected, OutOfRange}
+use Rattle.reading.specs.declared.rules.Rule.TheVariants.{Unexpected}
 use Rattle.reading.proofs.WrittenLaws.{plain_bytes, widest_value, written-line, written-rest, read_line, number_short}
 use Rattle.tariffs.specs.Priced.{most_rate}
 use Rattle.request.specs.declared.kind.Kind.{Kind}
