@@ -1,5 +1,5 @@
 -- A chain of two parts, each with two ages and no hazard.
-use Rattle.std.proofs.Common.{◌≡◌, ℕ, ◌+◌, ◌<◌, ◌≤◌, ◌∷◌, ◌++◌, get_or, replicate, refl, subst, inl, inr, arith, lit≤}
+use Rattle.std.proofs.Common.{◌≡◌, ℕ, ◌<◌, ◌≤◌, ◌∷◌, ◌++◌, get_or, replicate, refl, subst, inl, inr, arith, lit≤}
 use Rattle.chain.specs.Renewals.{everything_holds}
 use Rattle.chain.specs.Chains.{Renewable}
 use Rattle.chain.specs.Laws.{SomeChain}

@@ -1,5 +1,5 @@
 -- What the definitions of a chain come to.
-use Rattle.std.proofs.Common.{◌≡◌, ℕ, ◌+◌, ◌-◌, ◌*◌, ◌/◌, ◌%◌, ◌<◌, ◌≤◌, true, false, List, Some, None, Option, sym, refl, ap, ◌∙◌, subst, inl, inr, arith}
+use Rattle.std.proofs.Common.{◌≡◌, ℕ, ◌+◌, ◌*◌, ◌/◌, ◌%◌, ◌<◌, ◌≤◌, true, false, List, Some, None, Option, sym, refl, ap, ◌∙◌, subst, inl, inr, arith}
 use Rattle.chain.specs.Feasibility.{feasible-decides, few_portfolios}
 use Rattle.chain.specs.LawsLemmas.{lives_in_range}
 use Rattle.chain.specs.RoundTrips.{made_of}

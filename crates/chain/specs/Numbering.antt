@@ -1,6 +1,6 @@
 -- The numbers of states.
 use Rattle.std.specs.Prelude.{◌≡◌, ℕ, ◌+◌, ◌-◌, ◌*◌, ◌/◌, ◌%◌, ◌^◌, ◌<◌, ◌≤◌, cond, List, length, nat_lt, slice_index}
-use Rattle.chain.specs.Radix.{digit, number, number-below, number_step}
+use Rattle.chain.specs.Radix.{number, number-below, number_step}
 use Rattle.chain.specs.Sums.{product_at_most, product_more}
 use Rattle.std.proofs.lemmas.Nat.{mul-le, mul-add-lt}
 use Rattle.std.proofs.lemmas.List.FromFn.{fill_by_all, get_or-map-range_with_len}

@@ -1,7 +1,7 @@
 -- Sums, products and tests over parts.
 use Rattle.std.specs.Prelude.{◌≡◌, ℕ, zero, suc, ◌+◌, ◌-◌, ◌*◌, ◌^◌, ◌<◌, ◌≤◌, Bool, true, false, ◌≢◌, List, length, Decides, slice_set, refl}
 use Rattle.std.proofs.lemmas.Nat.{mul-le}
-use Rattle.chain.specs.Over.{Entries, over_parts, product, every, entry}
+use Rattle.chain.specs.Over.{Entries, over_parts, product, every}
 use Rattle.std.proofs.lemmas.Bool.{and_from, and_parts, both_ways, cases_Bool, cases_lt}
 use Rattle.std.proofs.Common.{get_or-set_same, get_or-set_other, inl, inr, ap, ◌∙◌, pow-suc, add-one, arith}
 use Rattle.std.proofs.Math.Nat.{pow-zero}

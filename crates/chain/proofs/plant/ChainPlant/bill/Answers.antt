@@ -11,4 +11,4 @@ cents-requires c =
     let n = p.numbers in
     let l = lawful_from n p.terms p.lives p.hazards p.charges p.dearest in
     let h = feasible-facts n p.least l (table-held (arcs_of n) p.least p.right) c.args.state c.args.portfolio (sym c.feasible.ensures ∙ c.if-not-feasible.false) in
-    (omega (arith, h.portfolio, few_portfolios n p.terms.0.1), omega (arith, c.failed-in-failed.ensures, failed_few n c.args.state))
+    (omega (arith, h.portfolio, few_portfolios n p.terms.0.1), omega (arith, c.failed_in-failed.ensures, failed_few n c.args.state))
