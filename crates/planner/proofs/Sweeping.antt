@@ -1,10 +1,10 @@
 -- Tables that sweeps lead to are within reach; and answers by case.
-use Rattle.std.proofs.Common.{◌≡◌, ℕ, zero, suc, ◌+◌, ◌≤◌, true, false, List, [], ◌∷◌, length, replicate, is_some, Some, None, Option, sym, refl, ap, ◌∙◌, subst, add-one, arith, MatchOption}
+use Rattle.std.proofs.Common.{◌≡◌, ℕ, zero, suc, ◌+◌, true, false, List, is_some, Some, None, Option, sym, subst, add-one, arith, MatchOption}
 use Rattle.std.proofs.lemmas.List.{length-replicate}
 use Rattle.interface.specs.Plants.{Model}
-use Rattle.interface.specs.Rows.{Row, zeros, reach}
+use Rattle.interface.specs.Rows.{Row, zeros}
 use Rattle.interface.specs.Tariffs.{Scale}
-use Rattle.lookahead.specs.Gains.{most_value, Near, Within}
+use Rattle.lookahead.specs.Gains.{Near, Within}
 use Rattle.lookahead.proofs.Bounds.{zeros_reach}
 use Rattle.planner.specs.Sweeps.{blank, Sweep, Swept, start, more}
 

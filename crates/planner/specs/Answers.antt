@@ -1,7 +1,7 @@
 -- What the planner answers, and what its three tables hold then.
 use Rattle.std.specs.Prelude.{◌≡◌, ℕ, ◌<◌, ◌≤◌, List, map, length, replicate, Ok, Err, Result}
 use Rattle.interface.specs.Plants.{Model}
-use Rattle.interface.specs.Rows.{Row, zeros}
+use Rattle.interface.specs.Rows.{Row}
 use Rattle.interface.specs.Tariffs.{Scale}
 use Rattle.certificate.specs.declared.recipe.Claims.{Claims}
 use Rattle.certificate.specs.Recipes.{Lowest, Highest}

@@ -19,7 +19,7 @@ fn plan_tables<P: Plant, T: Tariff>(
     working: &mut [T::Amount],
     policy: &mut [u16],
 ) -> Result<Claims<T::Amount>, Refusal>
-    ensures { Answer T.Tariff.row (P.model plant.now) (T.scale tariff.now) sweeps (record { values = values.entry.now; working = working.old; policy = policy.old }) (record { values = values.exit.now; working = working.new; policy = policy.new }) result }
+    ensures { Answer T.Tariff.row (P.model plant.now) (T.scale tariff.now) sweeps (record { values = values.old; working = working.old; policy = policy.old }) (record { values = values.new; working = working.new; policy = policy.new }) result }
 {
     if sweeps > MOST_SWEEPS {
         return Err(Refusal::TooManySweeps);
@@ -52,8 +52,8 @@ pub fn plan<P: Plant, T: Tariff>(
     working: &mut [T::Amount],
     policy: &mut [u16],
 ) -> Result<Claims<T::Amount>, Refusal>
-    ensures answer { Answer T.Tariff.row (P.model plant.now) (T.scale tariff.now) sweeps (record { values = values.entry.now; working = working.old; policy = policy.old }) (record { values = values.exit.now; working = working.new; policy = policy.new }) result }
-    ensures only { Only T.Tariff.row (P.model plant.now) (T.scale tariff.now) sweeps (record { values = values.exit.now; working = working.new; policy = policy.new }) result }
+    ensures answer { Answer T.Tariff.row (P.model plant.now) (T.scale tariff.now) sweeps (record { values = values.old; working = working.old; policy = policy.old }) (record { values = values.new; working = working.new; policy = policy.new }) result }
+    ensures only { Only T.Tariff.row (P.model plant.now) (T.scale tariff.now) sweeps (record { values = values.new; working = working.new; policy = policy.new }) result }
 {
     plan_tables(plant, tariff, sweeps, values, working, policy)
 }

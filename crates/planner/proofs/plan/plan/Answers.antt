@@ -1,4 +1,4 @@
-use Rattle.std.proofs.Common.{ℕ, map, Ok, Err, Result}
+use Rattle.std.proofs.Common.{ℕ, Ok, Err, Result}
 use Rattle.interface.specs.Plants.{Model}
 use Rattle.interface.specs.Rows.{Row}
 use Rattle.interface.specs.Tariffs.{Scale}

@@ -1,4 +1,4 @@
-use Rattle.std.proofs.Common.{◌≡◌, ℕ, map, sym, ap, ◌∙◌, subst, arith}
+use Rattle.std.proofs.Common.{◌≡◌, ℕ, map, arith}
 use Rattle.lookahead.specs.Gains.{look_ahead}
 use Rattle.certificate.proofs.Claiming.{feasible_of}
 use Rattle.certificate.proofs.Refused.{fitting_to}

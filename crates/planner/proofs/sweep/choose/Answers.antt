@@ -1,4 +1,4 @@
-use Rattle.std.proofs.Common.{◌≡◌, ℕ, ◌<◌, ◌≢◌, map, length, set, sym, subst, arith, below_more}
+use Rattle.std.proofs.Common.{◌<◌, ◌≢◌, map, length, set, sym, subst, arith, below_more}
 use Rattle.std.proofs.lemmas.List.{get_or-set_same, get_or-set_other}
 use Rattle.interface.specs.Rows.{Row}
 use Rattle.certificate.specs.Certificates.{named}

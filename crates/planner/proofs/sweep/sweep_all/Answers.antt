@@ -1,6 +1,5 @@
-use Rattle.std.proofs.Common.{◌≡◌, ℕ, ◌<◌, map, sym, ap, ◌∙◌, subst, arith}
-use Rattle.lookahead.specs.Gains.{Near}
-use Rattle.planner.specs.Sweeps.{blank, Sweep, Swept, Stuck, start}
+use Rattle.std.proofs.Common.{◌≡◌, ℕ, ◌<◌, map, sym, ◌∙◌, subst, arith}
+use Rattle.planner.specs.Sweeps.{Swept, Stuck, start}
 use Rattle.planner.proofs.Sweeping.{cases_some, cases_none, swept_within, swept_more}
 use Rattle.planner.proofs.sweep.sweep_all.Goals as goal
 
@@ -22,9 +21,9 @@ returns-then-is_some g c =
     (λ s. (k : ℕ) × (k < c.args.sweeps) × Swept m t k (map row c.sweep-stuck.new.values) × Stuck m t (map row c.sweep-stuck.new.values) s)
     (sym c.is_some.ensures ∙ c.if-is_some.true)
     (λ s h. (
-      c.loop-done.-done,
+      c.loop-done._done,
       c.loop-done-test.true,
-      subst (λ w. Swept m t c.loop-done.-done (map row w)) (sym h.1) c.loop-done.invariant,
+      subst (λ w. Swept m t c.loop-done._done (map row w)) (sym h.1) c.loop-done.invariant,
       subst (λ w. Stuck m t (map row w) s) (sym h.1) h.0,
     ))
     c.sweep-stuck.ensures
@@ -34,11 +33,11 @@ loop-done-preserved g c =
     let m = g.P.Plant.model c.args.plant.now in
     let t = g.T.Tariff.scale c.args.tariff.now in
     let done = cases_none c.sweep-stuck.result _ _ (sym c.is_some.ensures ∙ c.if-is_some.false) c.sweep-stuck.ensures in
-    swept_more m t c.loop-done.-done _ _ c.loop-done.invariant done.0 done.1
+    swept_more m t c.loop-done._done _ _ c.loop-done.invariant done.0 done.1
 
 pub returns : goal.returns
 returns g c =
     let m = g.P.Plant.model c.args.plant.now in
     let t = g.T.Tariff.scale c.args.tariff.now in
-    let all : c.loop-done.-done ≡ c.args.sweeps = omega arith in
+    let all : c.loop-done._done ≡ c.args.sweeps = omega arith in
     subst (λ k. Swept m t k (map g.T.Tariff.row c.loop-done.values)) all c.loop-done.invariant

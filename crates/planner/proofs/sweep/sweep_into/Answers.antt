@@ -1,7 +1,7 @@
-use Rattle.std.proofs.Common.{◌≡◌, ℕ, ◌<◌, ◌≤◌, ◌≢◌, map, length, set, sym, ap, ◌∙◌, subst, arith, below_more}
+use Rattle.std.proofs.Common.{◌≡◌, ◌<◌, ◌≤◌, ◌≢◌, map, length, set, sym, ◌∙◌, subst, arith, below_more}
 use Rattle.std.proofs.lemmas.List.{length-map}
 use Rattle.interface.specs.Rows.{reach}
-use Rattle.lookahead.specs.Gains.{most_value, value_of}
+use Rattle.lookahead.specs.Gains.{most_value}
 use Rattle.lookahead.proofs.Bounds.{fits_map}
 use Rattle.certificate.proofs.Soundness.{near_from_each}
 use Rattle.planner.specs.Sweeps.{Fresh, NewValue}
