@@ -2,7 +2,6 @@
 use Rattle.workorder.specs.Figures.{Figures as OrderFigures}
 use Rattle.chain.specs.Laws.{Figures as ChainFigures}
 use Rattle.pair.specs.Pairs.{ThresholdFigure}
-use Rattle.figures.specs.OnePart.{SweepFigures}
 
 pub record Starred : Type 0 where
   -- least work orders: a circle of cheap arcs costs 11 and not 2
@@ -11,5 +10,3 @@ pub record Starred : Type 0 where
   pub bills : ChainFigures
   -- survival of a pair: 90 × 80 reaches 7200 and not 7201
   pub survival : ThresholdFigure
-  -- plans of a chain of one part: after one sweep low is 1400000000 and high 4400000000, after two both are 4100000000
-  pub sweeps : SweepFigures

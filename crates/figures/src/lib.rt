@@ -2,15 +2,17 @@
 #![tactic(auto)]
 
 ghost use Rattle.std.specs.Prelude.{◌≡◌};
+ghost use Rattle.figures.specs.OnePart.{SweepFigures};
 ghost use Rattle.figures.specs.Starred.{Starred};
 
-// How many groups of figures there are: work orders, bills of a chain, survival of a pair, plans after sweeps.
-const GROUPS: u32 = 4;
+// How many groups of figures there are: work orders, bills of a chain, survival of a pair.
+const GROUPS: u32 = 3;
 
 // The figures hold. Its answer is the number of groups.
 pub fn figures_hold() -> u32
     ensures figures { Starred }
-    ensures groups { result ≡ 4 }
+    ensures sweeps { SweepFigures }
+    ensures groups { result ≡ 3 }
 {
     GROUPS
 }

@@ -6,6 +6,7 @@ use Rattle.figures.proofs.figures_hold.Goals as goal
 
 pub returns : goal.returns
 returns c = record {
-  figures = record { orders = order_figures; bills = chain_figures; survival = search rules; sweeps = sweep_figures };
+  figures = record { orders = order_figures; bills = chain_figures; survival = search rules };
+  sweeps = sweep_figures;
   groups = search rules;
 }
