@@ -1,7 +1,7 @@
 -- The text of a lawful plan is read without a fault, and no other plan has it.
 use Rattle.std.proofs.Common.{◌≡◌, ℕ, zero, suc, ◌+◌, ◌*◌, ◌^◌, ◌<◌, ◌≤◌, Bool, true, false, cond, ◌&&◌, eqb, ◌⊎◌, List, [], ◌∷◌, ◌++◌, map, length, get_or, ℤ, Some, None, Ok, Err, codes, decimal, Option, Result, sym, refl, ap, ◌∙◌, subst, inl, inr, ⊎_elim, arith, lit<}
 use lib.Signed.{mag}
-use Rattle.std.specs.List.{range_with_len, AllByRecursion as All}
+use Rattle.std.specs.List.{range_with_len, AllByRecursion}
 use Rattle.std.specs.Fmt.{signed_decimal}
 use Rattle.std.specs.Str.{bytes_eq}
 use Rattle.std.proofs.ByRecursion.{All-append}
@@ -47,22 +47,22 @@ as_line p End = refl
 
 -- a field that can stand in a line
 record Fine (f : List ℕ) : Type 0 where
-  bytes : All Printable f
+  bytes : AllByRecursion Printable f
   short : length f ≤ 20
 
 fine_number : (n : ℕ) → n < 2 ^ 64 → Fine (decimal n)
 fine_number n small = record { bytes = decimal_printable n small; short = number_short n small }
 
-fine_places : (u : Amounts) → All (λ z. mag z < 2 ^ 63) u → All Fine (map signed_decimal u)
+fine_places : (u : Amounts) → AllByRecursion (λ z. mag z < 2 ^ 63) u → AllByRecursion Fine (map signed_decimal u)
 fine_places [] h = tt
 fine_places (z ∷ u) h = (record { bytes = signed_printable z h.0; short = signed_short z h.0 }, fine_places u h.1)
 
-fine_joined : (fs : List (List ℕ)) → All Fine fs → All Printable (joined fs)
+fine_joined : (fs : List (List ℕ)) → AllByRecursion Fine fs → AllByRecursion Printable (joined fs)
 fine_joined [] h = tt
 fine_joined (f ∷ []) h = h.0.bytes
 fine_joined (f ∷ (g ∷ fs)) h = All-append Printable f (comma ∷ joined (g ∷ fs)) h.0.bytes ((omega arith, omega arith), fine_joined (g ∷ fs) h.1)
 
-short_joined : (fs : List (List ℕ)) → All Fine fs → length (joined fs) ≤ 21 * length fs
+short_joined : (fs : List (List ℕ)) → AllByRecursion Fine fs → length (joined fs) ≤ 21 * length fs
 short_joined [] h = omega arith
 short_joined (f ∷ []) h = omega (arith, h.0.short)
 short_joined (f ∷ (g ∷ fs)) h = omega (arith, h.0.short, length-append f (comma ∷ joined (g ∷ fs)), short_joined (g ∷ fs) h.1)
@@ -82,7 +82,7 @@ key_short High = omega arith
 key_short (Row s) = omega arith
 key_short End = omega arith
 
-begins : (d : Stage) (fs : List (List ℕ)) (rest : List ℕ) → All Fine fs → length fs ≤ 6 → Begins (line (key_of d) (joined fs) ++ rest) (key_of d) (joined fs) rest
+begins : (d : Stage) (fs : List (List ℕ)) (rest : List ℕ) → AllByRecursion Fine fs → length fs ≤ 6 → Begins (line (key_of d) (joined fs) ++ rest) (key_of d) (joined fs) rest
 begins d fs rest fine few =
     let k = plain d in
     record {
@@ -94,7 +94,7 @@ begins d fs rest fine few =
       short = omega (arith, key_short d, short_joined fs fine);
     }
 
-rows_inside : (a k n : ℕ) → a + k ≤ n → All (Inside n) (map Row (range_with_len a k) ++ (End ∷ []))
+rows_inside : (a k n : ℕ) → a + k ≤ n → AllByRecursion (Inside n) (map Row (range_with_len a k) ++ (End ∷ []))
 rows_inside a zero n h = (tt, tt)
 rows_inside a (suc k) n h = (omega arith, rows_inside (a + 1) k n (omega arith))
 
@@ -102,13 +102,13 @@ first_or_later : (a s : ℕ) → a ≤ s → (a ≡ s) ⊎ (a < s)
 first_or_later a s l = ⊎_elim (λ less. inr less) (λ most. inl (omega arith)) (cases_lt a s)
 
 -- what holds of all those stages holds of the row of each state
-row_among : (P : Stage → Type 0) (a k : ℕ) → All P (map Row (range_with_len a k) ++ (End ∷ [])) → (s : ℕ) → a ≤ s → s < a + k → P (Row s)
+row_among : (P : Stage → Type 0) (a k : ℕ) → AllByRecursion P (map Row (range_with_len a k) ++ (End ∷ [])) → (s : ℕ) → a ≤ s → s < a + k → P (Row s)
 row_among P a zero h s l m = absurd (omega arith)
 row_among P a (suc k) h s l m = ⊎_elim (λ e. subst (λ n. P (Row n)) e h.0) (λ less. row_among P (a + 1) k h.1 s (omega arith) (omega arith)) (first_or_later a s l)
 
 module _ (places : ℕ) (some : 0 < places) (few : places ≤ most_places) where
   module _ (p : Plan) (h : Lawful places p) where
-    fine-value : (d : Stage) → Inside (length p.values) d → All Fine (value_fields p d) × (length (value_fields p d) ≤ 6)
+    fine-value : (d : Stage) → Inside (length p.values) d → AllByRecursion Fine (value_fields p d) × (length (value_fields p d) ≤ 6)
     fine-value States i = ((fine_number (length p.values) (omega (arith, h.few)), tt), omega arith)
     fine-value Low i = (fine_places p.low h.low.each, omega (arith, length-map p.low signed_decimal, h.low.long))
     fine-value High i = (fine_places p.high h.high.each, omega (arith, length-map p.high signed_decimal, h.high.long))
@@ -143,7 +143,7 @@ module _ (places : ℕ) (some : 0 < places) (few : places ≤ most_places) where
     line-good : (d : Stage) (rest : List ℕ) → Inside (length p.values) d → line_fault places (Some d) (line_at (stage_line p d ++ rest)) ≡ None
     line-good d rest i = ap (line_fault places (Some d)) (line-said d rest i).0 ∙ cond-true _ _ _ ((bytes_eq-Decides (key_of d) (key_of d)).1 refl) ∙ value-good d i
 
-    lines-good : (dues : List Stage) (j : ℕ) → All (Inside (length p.values)) dues → first_fault places dues j (concat (map (stage_line p) dues)) ≡ None
+    lines-good : (dues : List Stage) (j : ℕ) → AllByRecursion (Inside (length p.values)) dues → first_fault places dues j (concat (map (stage_line p) dues)) ≡ None
     lines-good [] j i = refl
     lines-good (d ∷ ds) j i =
         ap (λ f. at_line j f (first_fault places ds (j + 1) (rest_at (concat (map (stage_line p) (d ∷ ds)))))) (line-good d (concat (map (stage_line p) ds)) i.0)
@@ -172,7 +172,7 @@ module _ (places : ℕ) (some : 0 < places) (few : places ≤ most_places) where
     inside_too : (d : Stage) → Inside (length p.values) d → Inside (length q.values) d
     inside_too d i = subst (λ n. Inside n d) same i
 
-    values_same : (dues : List Stage) → All (Inside (length p.values)) dues → concat (map (stage_line p) dues) ≡ concat (map (stage_line q) dues) → All (λ d. value_text p d ≡ value_text q d) dues
+    values_same : (dues : List Stage) → AllByRecursion (Inside (length p.values)) dues → concat (map (stage_line p) dues) ≡ concat (map (stage_line q) dues) → AllByRecursion (λ d. value_text p d ≡ value_text q d) dues
     values_same [] i e = tt
     values_same (d ∷ ds) i e =
         let a = line-said p h d (concat (map (stage_line p) ds)) i.0 in

@@ -3,7 +3,7 @@ use Rattle.std.proofs.Common.{◌≡◌, ℕ, zero, suc, ◌+◌, ◌-◌, ◌^�
 use lib.Signed.{mag}
 use Rattle.std.specs.Option.{option_map}
 use Rattle.std.specs.Fmt.{signed_decimal}
-use Rattle.std.specs.List.{AllByRecursion as All}
+use Rattle.std.specs.List.{AllByRecursion}
 use Rattle.std.proofs.lemmas.List.{append_assoc, append-nil, length-map, take_more_set}
 use Rattle.std.proofs.lemmas.Bool.{eqb-true, eq-eqb, cond-true}
 use Rattle.interface.specs.Limits.{most_states}
@@ -72,7 +72,7 @@ amount_forth (suc n) [] h = absurd (omega (arith, h.long))
 amount_forth (suc n) (z ∷ u) h =
     ap (λ o. onto o (amount_of n (map signed_decimal u))) (numeral_signed z h.each.0) ∙ ap (onto (Some z)) (amount_forth n u (record { long = omega (arith, h.long); each = h.each.1 }))
 
-free_places : (u : Row) → All (λ z. mag z < 2 ^ 63) u → All (Free comma) (map signed_decimal u)
+free_places : (u : Row) → AllByRecursion (λ z. mag z < 2 ^ 63) u → AllByRecursion (Free comma) (map signed_decimal u)
 free_places [] h = tt
 free_places (z ∷ u) h = (signed_free comma (lit< tt) z h.0, free_places u h.1)
 

@@ -1,7 +1,7 @@
 -- The text of a plan. A plan is a value table, a policy and the claims low and high.
 use Rattle.std.specs.Prelude.{◌≡◌, ℕ, suc, ◌+◌, ◌-◌, ◌^◌, ◌<◌, ◌≤◌, cond, List, [], ◌∷◌, ◌++◌, map, length, ℤ, codes, decimal, slice_index, slice_index_or}
 use Rattle.std.specs.Int.Signed.{mag}
-use Rattle.std.specs.List.{range_with_len, AllByRecursion as All}
+use Rattle.std.specs.List.{range_with_len, AllByRecursion}
 use Rattle.std.specs.Fmt.{signed_decimal}
 use Rattle.interface.specs.Limits.{most_states}
 use Rattle.interface.specs.Rows.{Row as Amounts}
@@ -23,7 +23,7 @@ most_portfolio = 65535
 -- an amount of so many places, each a number of 64 bits
 pub record Held (places : ℕ) (u : Amounts) : Type 0 where
   pub long : length u ≡ places
-  pub each : All (λ z. mag z < 2 ^ 63) u
+  pub each : AllByRecursion (λ z. mag z < 2 ^ 63) u
 
 -- what a plan of amounts of so many places keeps
 pub record Lawful (places : ℕ) (p : Plan) : Type 0 where

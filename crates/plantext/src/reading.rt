@@ -96,7 +96,7 @@ impl<A: Copy> Reader<A> {
     }
 
     fn take_low<T: Tariff<Amount = A>>(&mut self, tariff: &T, value: &[u8]) -> Result<(), Fault>
-        ensures { (vs : List A) (xs : List ℕ) → Judged result (value_fault (scale tariff.now).places Stage.Low value.now) (TakesLow (scale tariff.now).places value.now (progress row self.old vs xs) (progress row self.new vs xs)) }
+        ensures { (vs : List A) (xs : List ℕ) → Judged result (value_fault (T.scale tariff.now).places Stage.Low value.now) (TakesLow (T.scale tariff.now).places value.now (progress T.Tariff.row self.old vs xs) (progress T.Tariff.row self.new vs xs)) }
     {
         let Some(low) = read_amount(tariff, value) else {
             return Err(Fault::OutOfForm);
@@ -107,7 +107,7 @@ impl<A: Copy> Reader<A> {
     }
 
     fn take_high<T: Tariff<Amount = A>>(&mut self, tariff: &T, value: &[u8]) -> Result<(), Fault>
-        ensures { (vs : List A) (xs : List ℕ) → Judged result (value_fault (scale tariff.now).places Stage.High value.now) (TakesHigh (scale tariff.now).places value.now (progress row self.old vs xs) (progress row self.new vs xs)) }
+        ensures { (vs : List A) (xs : List ℕ) → Judged result (value_fault (T.scale tariff.now).places Stage.High value.now) (TakesHigh (T.scale tariff.now).places value.now (progress T.Tariff.row self.old vs xs) (progress T.Tariff.row self.new vs xs)) }
     {
         let Some(high) = read_amount(tariff, value) else {
             return Err(Fault::OutOfForm);
@@ -127,7 +127,7 @@ impl<A: Copy> Reader<A> {
     ) -> Result<(), Fault>
         requires values { state < length values.old }
         requires policy { state < length policy.old }
-        ensures { Judged result (value_fault (scale tariff.now).places (Stage.Row state) value.now) (TakesRow (scale tariff.now).places state value.now (progress row self.old values.old policy.old) (progress row self.new values.new policy.new)) }
+        ensures { Judged result (value_fault (T.scale tariff.now).places (Stage.Row state) value.now) (TakesRow (T.scale tariff.now).places state value.now (progress T.Tariff.row self.old values.old policy.old) (progress T.Tariff.row self.new values.new policy.new)) }
     {
         let Some(entry) = read_entry(tariff, state, value) else {
             return Err(Fault::OutOfForm);
@@ -160,7 +160,7 @@ impl<A: Copy> Reader<A> {
     ) -> Result<(), Fault>
         requires values { InsideDue (length values.old) self.old.due }
         requires policy { InsideDue (length policy.old) self.old.due }
-        ensures judged { Judged result (pair_fault (scale tariff.now).places self.old.due key.now value.now) (TakesDue (scale tariff.now).places self.old.due value.now (progress row self.old values.old policy.old) (progress row self.new values.new policy.new)) }
+        ensures judged { Judged result (pair_fault (T.scale tariff.now).places self.old.due key.now value.now) (TakesDue (T.scale tariff.now).places self.old.due value.now (progress T.Tariff.row self.old values.old policy.old) (progress T.Tariff.row self.new values.new policy.new)) }
         ensures kept { self.old.due ≡ Some Stage.States → (values.new ≡ values.old) × (policy.new ≡ policy.old) }
     {
         match (self.due, key_named(key)) {
@@ -185,7 +185,7 @@ impl<A: Copy> Reader<A> {
     ) -> Result<(), PlanRefusal>
         requires values { InsideDue (length values.old) self.old.due }
         requires policy { InsideDue (length policy.old) self.old.due }
-        ensures line { ReadsLine (scale tariff.now).places (progress row self.old values.old policy.old) (progress row self.new values.new policy.new) lines.old.rest.now lines.new.rest.now lines.old.place lines.new.place result }
+        ensures line { ReadsLine (T.scale tariff.now).places (progress T.Tariff.row self.old values.old policy.old) (progress T.Tariff.row self.new values.new policy.new) lines.old.rest.now lines.new.rest.now lines.old.place lines.new.place result }
         ensures kept { self.old.due ≡ Some Stage.States → (values.new ≡ values.old) × (policy.new ≡ policy.old) }
     {
         let Read { line, place } = lines.next_line();
@@ -210,7 +210,7 @@ impl<A: Copy> Reader<A> {
         requires level { length policy.old ≡ length values.old }
         requires states { 1 ≤ length values.old }
         requires few { length values.old ≤ most_states }
-        ensures { ReadsBehind (scale tariff.now).places (length values.old) (progress row self.new values.new policy.new).plan lines.old.rest.now lines.old.place result }
+        ensures { ReadsBehind (T.scale tariff.now).places (length values.old) (progress T.Tariff.row self.new values.new policy.new).plan lines.old.rest.now lines.old.place result }
     {
         while self.due.is_some() {
             self.read_line(tariff, lines, values, policy)?;
@@ -229,7 +229,7 @@ fn read_into<T: Tariff>(
     values: &mut [T::Amount],
     policy: &mut [u16],
 ) -> Result<PlanClaims<T::Amount>, PlanRefusal>
-    ensures { PlanRead row (scale tariff.now).places text.now (record { values = values.entry.now; policy = policy.old }) (record { values = values.exit.now; policy = policy.new }) result }
+    ensures { PlanRead T.Tariff.row (T.scale tariff.now).places text.now (record { values = values.entry.now; policy = policy.old }) (record { values = values.exit.now; policy = policy.new }) result }
 {
     let mut lines = Lines::new(text);
     let zero = tariff.zero();
@@ -252,7 +252,7 @@ fn read_into<T: Tariff>(
 
 // Zero rows everywhere.
 fn clear<T: Tariff>(tariff: &T, values: &mut [T::Amount])
-    ensures { map row values.new ≡ replicate (length values.old) (zeros (scale tariff.now).places) }
+    ensures { map T.Tariff.row values.new ≡ replicate (length values.old) (zeros (T.scale tariff.now).places) }
 {
     for value in values.iter_mut() {
         *value = tariff.zero();
@@ -266,7 +266,7 @@ fn read_or_clear<T: Tariff>(
     values: &mut [T::Amount],
     policy: &mut [u16],
 ) -> Result<PlanClaims<T::Amount>, PlanRefusal>
-    ensures { PlanAnswer row (scale tariff.now).places text.now (record { values = values.entry.now; policy = policy.old }) (record { values = values.exit.now; policy = policy.new }) result }
+    ensures { PlanAnswer T.Tariff.row (T.scale tariff.now).places text.now (record { values = values.entry.now; policy = policy.old }) (record { values = values.exit.now; policy = policy.new }) result }
 {
     match read_into(tariff, text, values, policy) {
         Err(PlanRefusal::AtLine(fault, line)) => {
@@ -286,8 +286,8 @@ pub fn read_plan<T: Tariff>(
     values: &mut [T::Amount],
     policy: &mut [u16],
 ) -> Result<PlanClaims<T::Amount>, PlanRefusal>
-    ensures answer { PlanAnswer row (scale tariff.now).places text.now (record { values = values.entry.now; policy = policy.old }) (record { values = values.exit.now; policy = policy.new }) result }
-    ensures law { GivesBack row (scale tariff.now).places text.now (record { values = values.entry.now; policy = policy.old }) (record { values = values.exit.now; policy = policy.new }) result }
+    ensures answer { PlanAnswer T.Tariff.row (T.scale tariff.now).places text.now (record { values = values.entry.now; policy = policy.old }) (record { values = values.exit.now; policy = policy.new }) result }
+    ensures law { GivesBack T.Tariff.row (T.scale tariff.now).places text.now (record { values = values.entry.now; policy = policy.old }) (record { values = values.exit.now; policy = policy.new }) result }
 {
     read_or_clear(tariff, text, values, policy)
 }

@@ -25,7 +25,7 @@ pub(crate) fn read_count(value: &[u8]) -> Option<usize>
 
 // The amount whose places are the fields that are left.
 fn read_places<T: Tariff>(tariff: &T, mut fields: Fields) -> Option<T::Amount>
-    ensures { option_map row result ≡ amount_of (scale tariff.now).places (further fields.entry.rest) }
+    ensures { option_map T.Tariff.row result ≡ amount_of (T.scale tariff.now).places (further fields.entry.rest) }
 {
     let mut amount = tariff.zero();
     for i in 0..tariff.place_count() {
@@ -40,7 +40,7 @@ fn read_places<T: Tariff>(tariff: &T, mut fields: Fields) -> Option<T::Amount>
 
 // An amount.
 pub(crate) fn read_amount<T: Tariff>(tariff: &T, value: &[u8]) -> Option<T::Amount>
-    ensures { option_map row result ≡ amount_of (scale tariff.now).places (fields_of value.now) }
+    ensures { option_map T.Tariff.row result ≡ amount_of (T.scale tariff.now).places (fields_of value.now) }
 {
     read_places(tariff, Fields::new(value))
 }
@@ -57,7 +57,7 @@ pub(crate) fn read_entry<T: Tariff>(
     state: usize,
     value: &[u8],
 ) -> Option<StateEntry<T::Amount>>
-    ensures { option_map (entry_rows row) result ≡ entry_of (scale tariff.now).places state (fields_of value.now) }
+    ensures { option_map (entry_rows T.Tariff.row) result ≡ entry_of (T.scale tariff.now).places state (fields_of value.now) }
 {
     let mut fields = Fields::new(value);
     let turn = fields.next_field()?;

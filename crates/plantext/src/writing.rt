@@ -54,8 +54,8 @@ fn put_signed(z: i64, out: &mut [u8], at: usize) -> usize
 
 // Place i of an amount, which has so many.
 fn place_of<T: Tariff>(tariff: &T, amount: T::Amount, i: usize) -> i64
-    requires { i < (scale tariff.now).places }
-    ensures { slice_get (row amount) i ≡ Some result }
+    requires { i < (T.scale tariff.now).places }
+    ensures { slice_get (T.Tariff.row amount) i ≡ Some result }
 {
     let Some(place) = tariff.place(amount, i) else {
         unreachable()
@@ -79,9 +79,9 @@ fn put_place(place: i64, i: usize, out: &mut [u8], at: usize) -> usize
 // Writes the places of an amount, with a comma between each two. So each of them has 64 bits.
 fn put_amount<T: Tariff>(tariff: &T, amount: T::Amount, out: &mut [u8], at: usize) -> usize
     requires { at + amount_room ≤ length out.old }
-    ensures text { Put (amountText (row amount)) at out.old out.new result }
+    ensures text { Put (amountText (T.Tariff.row amount)) at out.old out.new result }
     ensures short { result ≤ at + amount_room }
-    ensures held { Held (scale tariff.now).places (row amount) }
+    ensures held { Held (T.scale tariff.now).places (T.Tariff.row amount) }
 {
     let mut end = at;
     for i in 0..tariff.place_count() {
@@ -112,8 +112,8 @@ fn put_states(states: usize, out: &mut [u8]) -> usize
 fn put_claim<T: Tariff>(tariff: &T, key: &[u8], amount: T::Amount, out: &mut [u8]) -> usize
     requires short { length key.now ≤ key_room }
     requires room { line_room ≤ length out.old }
-    ensures text { Put (line key.now (amountText (row amount))) 0 out.old out.new result }
-    ensures held { Held (scale tariff.now).places (row amount) }
+    ensures text { Put (line key.now (amountText (T.Tariff.row amount))) 0 out.old out.new result }
+    ensures held { Held (T.scale tariff.now).places (T.Tariff.row amount) }
 {
     let at = put_key(key, out);
     let at = put_amount(tariff, amount, out, at);
@@ -128,8 +128,8 @@ fn put_row<T: Tariff>(
     out: &mut [u8],
 ) -> usize
     requires { line_room ≤ length out.old }
-    ensures text { Put (row_line state portfolio (row value)) 0 out.old out.new result }
-    ensures held { Held (scale tariff.now).places (row value) }
+    ensures text { Put (row_line state portfolio (T.Tariff.row value)) 0 out.old out.new result }
+    ensures held { Held (T.scale tariff.now).places (T.Tariff.row value) }
 {
     let at = put_key(ROW, out);
     let at = put_number(state as u64, out, at);
@@ -162,8 +162,8 @@ fn put_line<T: Tariff>(
     requires values { Inside (length values.now) stage }
     requires policy { Inside (length policy.now) stage }
     requires room { line_room ≤ length out.old }
-    ensures text { Put (stage_line (record { values = map row values.entry.now; policy = policy.now; low = row low; high = row high }) stage) 0 out.old out.new result }
-    ensures held { HeldLine (scale tariff.now).places (record { values = map row values.entry.now; policy = policy.now; low = row low; high = row high }) stage }
+    ensures text { Put (stage_line (record { values = map T.Tariff.row values.entry.now; policy = policy.now; low = T.Tariff.row low; high = T.Tariff.row high }) stage) 0 out.old out.new result }
+    ensures held { HeldLine (T.scale tariff.now).places (record { values = map T.Tariff.row values.entry.now; policy = policy.now; low = T.Tariff.row low; high = T.Tariff.row high }) stage }
 {
     match stage {
         Stage::States => put_states(values.len(), out),
@@ -193,8 +193,8 @@ pub fn plan_line<T: Tariff>(
     j: usize,
     space: &mut [u8],
 ) -> Result<Option<usize>, LineRefusal>
-    ensures line { AnswersLine (record { values = map row values.entry.now; policy = policy.now; low = row low; high = row high }) j space.old space.new result }
-    ensures held { WritesHeld (scale tariff.now).places (record { values = map row values.entry.now; policy = policy.now; low = row low; high = row high }) j result }
+    ensures line { AnswersLine (record { values = map T.Tariff.row values.entry.now; policy = policy.now; low = T.Tariff.row low; high = T.Tariff.row high }) j space.old space.new result }
+    ensures held { WritesHeld (T.scale tariff.now).places (record { values = map T.Tariff.row values.entry.now; policy = policy.now; low = T.Tariff.row low; high = T.Tariff.row high }) j result }
     ensures tight { Tight space.old result }
 {
     if !is_level(values, policy) {

@@ -21,7 +21,7 @@ returns-in-err-read-behind g c =
 pub returns : goal.returns
 returns g c =
     let places : ℕ = (g.T.Tariff.scale c.args.tariff.now).places in
-    let one = c.in-ok-read-line.ensures.line in
+    let one = c.in_ok-read_line.ensures.line in
     let line : c.read_line.new.lines.place ≡ 1 = omega (arith, c.new-lines.ensures.place, one.1) in
     let values : c.read_line.new.self.states ≡ length c.args.values.now = omega arith in
     let policy : c.read_line.new.self.states ≡ length c.args.policy.now = omega arith in

@@ -5,8 +5,8 @@ use Rattle.plantext.proofs.reading.read_plan.Goals as goal
 pub returns : goal.returns
 returns g c =
     let lawful = g.met.T.Tariff.lawful c.args.tariff.now in
-    let long : length c.read-or-clear.new.values ≡ length c.args.values.now = omega arith in
+    let long : length c.read_or_clear.new.values ≡ length c.args.values.now = omega arith in
     record {
-      answer = c.read-or-clear.ensures;
-      law = gives_back (g.T.Tariff.scale c.args.tariff.now).places lawful.some_places lawful.few_places g.T.Tariff.row c.args.text.now _ _ c.read-or-clear.result long c.read-or-clear.ensures;
+      answer = c.read_or_clear.ensures;
+      law = gives_back (g.T.Tariff.scale c.args.tariff.now).places lawful.some_places lawful.few_places g.T.Tariff.row c.args.text.now _ _ c.read_or_clear.result long c.read_or_clear.ensures;
     }

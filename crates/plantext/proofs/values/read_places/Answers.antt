@@ -27,14 +27,14 @@ loop-i-preserved g c =
     let row = g.T.Tariff.row in
     let places = (g.T.Tariff.scale c.args.tariff.now).places in
     let i = c.loop-i.i in
-    let z : ℤ = c.in-ok-place.place in
+    let z : ℤ = c.in_ok-place.place in
     let f : SFits w64 z = search rules in
     let set_is : row c.in-ok-amount.amount ≡ set (row c.loop-i.amount) i z = simp to_z-of_z at c.in-ok-amount.ensures.1 in
     let long = g.met.T.Tariff.fits c.args.tariff.now c.loop-i.amount in
     let inside : i < length (row c.loop-i.amount) = omega (arith, c.place-count-i-end.ensures) in
     let left : places - i ≡ suc (places - (i + 1)) = omega (arith, c.place-count-i-end.ensures) in
     ap (λ p. reads_on p (places - (i + 1)) (further c.next-field.new.self.rest)) (taken_more (row c.loop-i.amount) (row c.in-ok-amount.amount) i z set_is inside)
-    ∙ place_more (take i (row c.loop-i.amount)) z (places - i) (places - (i + 1)) _ _ _ left c.in-ok-next-field.ensures.value (sym c.in-ok-place.ensures.value)
+    ∙ place_more (take i (row c.loop-i.amount)) z (places - i) (places - (i + 1)) _ _ _ left c.in-ok-next-field.ensures.value (sym c.in_ok-place.ensures.value)
     ∙ c.loop-i.invariant
 
 pub returns-in-None : goal.returns-in-None
@@ -43,6 +43,6 @@ returns-in-None g c =
     let places = (g.T.Tariff.scale c.args.tariff.now).places in
     let i = c.loop-i.i in
     let long = g.met.T.Tariff.fits c.args.tariff.now c.loop-i.amount in
-    let all : length (row c.loop-i.amount) ≤ i = omega (arith, c.place-count-i-end.ensures) in
-    let over : places - i ≡ 0 = omega (arith, c.place-count-i-end.ensures) in
+    let all : length (row c.loop-i.amount) ≤ i = omega (arith, c.place_count-i-end.ensures) in
+    let over : places - i ≡ 0 = omega (arith, c.place_count-i-end.ensures) in
     sym (places_all (take i (row c.loop-i.amount)) (places - i) _ over c.in-None.ensures.value.0 ∙ ap Some (take_all i (row c.loop-i.amount) all)) ∙ c.loop-i.invariant

@@ -5,7 +5,7 @@ use Rattle.plantext.proofs.writing.put_number.Goals as goal
 pub unreachable-requires : goal.unreachable-requires
 unreachable-requires c =
     let room : c.args.at + length (decimal c.args.n) ≤ length c.args.out.now = omega (arith, number_short c.args.n c.ranges.n.fits, c.requires) in
-    no_room (decimal c.args.n) c.args.out.now c.args.at room (sym c.in-default.ensures.end)
+    no_room (decimal c.args.n) c.args.out.now c.args.at room (sym c.in_default.ensures.end)
 
 pub returns : goal.returns
 returns c =

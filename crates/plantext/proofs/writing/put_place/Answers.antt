@@ -8,10 +8,10 @@ use Rattle.plantext.proofs.writing.put_place.Goals as goal
 pub returns : goal.returns
 returns c =
     let f : SFits w64 c.args.place = c.ranges.place in
-    let first = c.put-bytes-start.ensures in
-    let second = simp to_z-of_z at c.put-signed-2.ensures.text in
-    let size = end_size (comma ∷ []) c.args.out.now c.args.at c.put-bytes-start.result first.ends in
+    let first = c.put_bytes-start.ensures in
+    let second = simp to_z-of_z at c.put_signed-2.ensures.text in
+    let size = end_size (comma ∷ []) c.args.out.now c.args.at c.put_bytes-start.result first.ends in
     record {
       text = put_as (separated_later c.args.i (signed_decimal c.args.place) c.if-i-eq0.false) (put_more first second);
-      short = omega (arith, c.put-signed-2.ensures.short);
+      short = omega (arith, c.put_signed-2.ensures.short);
     }

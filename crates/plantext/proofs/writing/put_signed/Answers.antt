@@ -8,7 +8,7 @@ use Rattle.plantext.proofs.writing.put_signed.Goals as goal
 pub unreachable-requires : goal.unreachable-requires
 unreachable-requires c =
     let f : SFits w64 c.args.z = c.ranges.z in
-    let none = simp to_z-of_z at c.in-default.ensures.end in
+    let none = simp to_z-of_z at c.in_default.ensures.end in
     let room : c.args.at + length (signed_decimal c.args.z) ≤ length c.args.out.now = omega (arith, signed_short c.args.z f.sfits, c.requires) in
     no_room (signed_decimal c.args.z) c.args.out.now c.args.at room (sym none)
 

@@ -11,13 +11,13 @@ loop-self-init g c = started _ (length c.args.values.now) _ _ _ c.args.self.now.
 
 pub loop-self-smaller : goal.loop-self-smaller
 loop-self-smaller g c =
-    let t = c.in-ok-read-line.ensures.line.0 in
+    let t = c.in_ok-read_line.ensures.line.0 in
     let less = rest_shorter c.loop-self.lines.rest.now t.key t.value t.said in
     omega (arith, ap length t.left)
 
 pub loop-self-preserved : goal.loop-self-preserved
 loop-self-preserved g c =
-    let h = c.in-ok-read-line.ensures.line in
+    let h = c.in_ok-read_line.ensures.line in
     let lawful = g.met.T.Tariff.lawful c.args.tariff.now in
     line_taken _ _ _ _ _ _ _ _ _ _ lawful.some_places c.requires.states c.loop-self.invariant h.0 h.1
 
