@@ -1,5 +1,5 @@
 -- A table that is filled from its front with one value.
-use Rattle.std.proofs.Common.{◌≡◌, ℕ, ◌+◌, ◌<◌, ◌≤◌, List, [], ◌∷◌, ◌++◌, map, length, take, set, replicate, sym, refl, ap, ◌∙◌}
+use Rattle.std.proofs.Common.{◌≡◌, ℕ, ◌+◌, ◌<◌, ◌≤◌, List, [], ◌∷◌, ◌++◌, map, length, take, set, replicate, sym, ap, ◌∙◌}
 use Rattle.std.proofs.lemmas.List.{take_more_set, map_push, replicate_more, take_all}
 
 module _ {A B : Type 0} (f : A → B) (z : B) where

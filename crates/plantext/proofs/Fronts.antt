@@ -1,5 +1,5 @@
 -- A plan that is read up to some line: the lines before it are those of the plan so far.
-use Rattle.std.proofs.Common.{◌≡◌, ℕ, zero, suc, ◌+◌, ◌-◌, ◌<◌, ◌≤◌, Bool, true, false, cond, eqb, ltb, ◌≢◌, List, [], ◌∷◌, ◌++◌, map, length, get_or, set, is_some, Some, None, Err, codes, Option, Result, sym, refl, ap, ◌∙◌, subst, arith, rules, below_more}
+use Rattle.std.proofs.Common.{◌≡◌, ℕ, zero, suc, ◌+◌, ◌-◌, ◌<◌, ◌≤◌, Bool, true, false, cond, eqb, ltb, ◌≢◌, List, [], ◌∷◌, ◌++◌, map, length, get_or, is_some, Some, None, Err, codes, Option, Result, sym, refl, ap, ◌∙◌, subst, arith, rules, below_more}
 use Rattle.std.specs.List.{range_with_len}
 use Rattle.std.specs.Str.{bytes_eq}
 use Rattle.std.proofs.lemmas.List.FromFn.{map-range_with_len_more}
@@ -7,7 +7,6 @@ use Rattle.std.proofs.lemmas.Slice.Eq.{bytes_eq-Decides}
 use Rattle.std.proofs.lemmas.List.{append_assoc, append-nil, map-append, length-set, get_or-set_same, get_or-set_other, nil_from_length}
 use Rattle.std.proofs.lemmas.Bool.{ltb-true, ltb-false, eqb-true, cond-true}
 use Rattle.interface.specs.Limits.{most_states}
-use Rattle.interface.specs.Rows.{Row as Amounts}
 use Rattle.lines.specs.Fields.{fields, joined}
 use Rattle.lines.specs.Line.{equals_sign, line_end, pair, line_at, rest_at}
 use Rattle.lines.proofs.FieldLaws.{joined_fields}
@@ -18,7 +17,7 @@ use Rattle.plantext.specs.declared.refusal.PlanRefusal.{PlanRefusal}
 use Rattle.plantext.specs.declared.refusal.PlanRefusal.TheVariants.{AtLine}
 use Rattle.plantext.specs.declared.stage.Stage.{Stage}
 use Rattle.plantext.specs.declared.stage.Stage.TheVariants.{States, Low, High, Row, End}
-use Rattle.plantext.specs.Lines.{Plan, Held, Lawful, most_portfolio, line, states_line, low_line, high_line, row_line, end_line, stages, stage_line, concat, plan_text}
+use Rattle.plantext.specs.Lines.{Plan, Held, Lawful, most_portfolio, line, states_line, low_line, high_line, row_line, stages, stage_line, concat, plan_text}
 use Rattle.plantext.specs.Progress.{Progress, after_row, TakesLow, TakesHigh, TakesRow, TakesEnd, TakesDue, TakesLine, InsideDue, ReadsBehind}
 use Rattle.plantext.specs.Reading.{key_of, value_fault, pair_fault, line_fault, stages_behind, at_line, first_fault}
 use Rattle.plantext.proofs.ValueLaws.{amount_back, amount_text, Entered, entry_back}

@@ -1,9 +1,8 @@
 -- The text of a lawful plan is read without a fault, and no other plan has it.
-use Rattle.std.proofs.Common.{◌≡◌, ℕ, zero, suc, ◌+◌, ◌*◌, ◌^◌, ◌<◌, ◌≤◌, Bool, true, false, cond, ◌&&◌, eqb, ◌⊎◌, List, [], ◌∷◌, ◌++◌, map, length, get_or, ℤ, Some, None, Ok, Err, codes, decimal, Option, Result, sym, refl, ap, ◌∙◌, subst, inl, inr, ⊎_elim, arith, lit<}
+use Rattle.std.proofs.Common.{◌≡◌, ℕ, zero, suc, ◌+◌, ◌*◌, ◌^◌, ◌<◌, ◌≤◌, true, cond, ◌&&◌, ◌⊎◌, List, [], ◌∷◌, ◌++◌, map, length, get_or, Some, None, Ok, Err, codes, decimal, Option, Result, sym, refl, ap, ◌∙◌, subst, inl, inr, ⊎_elim, arith}
 use lib.Signed.{mag}
 use Rattle.std.specs.List.{range_with_len, AllByRecursion}
 use Rattle.std.specs.Fmt.{signed_decimal}
-use Rattle.std.specs.Str.{bytes_eq}
 use Rattle.std.proofs.ByRecursion.{All-append}
 use Rattle.std.proofs.lemmas.Slice.Eq.{bytes_eq-Decides}
 use Rattle.std.proofs.lemmas.List.{append_assoc, length-append, length-map, ext_get_or}
@@ -11,7 +10,7 @@ use Rattle.std.proofs.lemmas.Bool.{eq-eqb, and_from, cond-true, cases_lt}
 use Rattle.interface.specs.Limits.{most_states, most_places}
 use Rattle.interface.specs.Rows.{Row as Amounts}
 use Rattle.lines.specs.Fields.{comma, joined, fields}
-use Rattle.lines.specs.Line.{equals_sign, line_end, longest_line, Said, pair, line_at, rest_at, Printable, Begins}
+use Rattle.lines.specs.Line.{equals_sign, line_end, Said, pair, line_at, rest_at, Printable, Begins}
 use Rattle.lines.proofs.DigitLaws.{signed_printable, decimal_printable}
 use Rattle.lines.proofs.LineLaws.{line_begins, begins-line, begins-rest}
 use Rattle.plantext.specs.declared.claims.PlanClaims.{PlanClaims}
@@ -21,8 +20,8 @@ use Rattle.plantext.specs.declared.stage.Stage.{Stage}
 use Rattle.plantext.specs.declared.stage.Stage.TheVariants.{States, Low, High, Row, End}
 use Rattle.plantext.specs.declared.values.StateEntry.{StateEntry}
 use Rattle.plantext.specs.Answers.{Tables, plan_of, PlanAnswer, GivesBack}
-use Rattle.plantext.specs.Lines.{Plan, Held, Lawful, Inside, most_portfolio, line, amount, stage_line, stages, concat, plan_text}
-use Rattle.plantext.specs.Reading.{key_of, unread, value_fault, pair_fault, line_fault, stages_behind, at_line, first_fault, states_said, refusal}
+use Rattle.plantext.specs.Lines.{Plan, Held, Lawful, Inside, line, amount, stage_line, stages, concat, plan_text}
+use Rattle.plantext.specs.Reading.{key_of, unread, value_fault, line_fault, stages_behind, at_line, first_fault, states_said, refusal}
 use Rattle.plantext.specs.Values.{count_of, amount_of, entry_of, is}
 use Rattle.plantext.proofs.Puts.{number_short, signed_short}
 use Rattle.plantext.proofs.ValueLaws.{amount_read, count_forth, entry_forth, entry_fields}

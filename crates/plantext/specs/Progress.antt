@@ -1,5 +1,5 @@
 -- How far a plan has been read, and how one line more is taken.
-use Rattle.std.specs.Prelude.{◌≡◌, ℕ, suc, ◌+◌, ◌-◌, cond, List, [], ◌∷◌, ◌++◌, map, length, Some, None, Ok, Err, Option, Result, nat_lt, slice_set}
+use Rattle.std.specs.Prelude.{◌≡◌, ℕ, ◌+◌, cond, List, ◌++◌, map, length, Some, None, Ok, Err, Option, Result, nat_lt, slice_set}
 use Rattle.interface.specs.Rows.{Row as Amounts}
 use Rattle.lines.specs.Fields.{fields}
 use Rattle.lines.specs.Line.{line_at, rest_at, pair}

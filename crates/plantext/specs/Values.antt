@@ -1,5 +1,5 @@
 -- What the values of a plan's lines say.
-use Rattle.std.specs.Prelude.{◌≡◌, ℕ, zero, suc, Bool, true, false, cond, List, [], ◌∷◌, ℤ, Some, None, Option, ◌==◌}
+use Rattle.std.specs.Prelude.{ℕ, zero, suc, Bool, false, cond, List, [], ◌∷◌, ℤ, Some, None, Option, ◌==◌}
 use Rattle.interface.specs.Limits.{most_states}
 use Rattle.interface.specs.Rows.{Row}
 use Rattle.lines.specs.Numeral.{numeral, signed_numeral}

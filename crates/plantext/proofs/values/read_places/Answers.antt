@@ -1,26 +1,26 @@
-use Rattle.std.proofs.Common.{◌≡◌, ℕ, suc, ◌+◌, ◌-◌, ◌<◌, ◌≤◌, ◌++◌, length, take, set, ℤ, Some, sym, ap, ◌∙◌, arith, w64, SFits, rules}
+use Rattle.std.proofs.Common.{◌≡◌, suc, ◌+◌, ◌-◌, ◌<◌, ◌≤◌, length, take, set, ℤ, Some, sym, ap, ◌∙◌, arith, w64, SFits, rules}
 use Rattle.std.specs.Option.{option_map}
 use Rattle.std.proofs.lemmas.List.{take_all}
 use Rattle.std.proofs.lemmas.Int.{to_z-of_z}
 use Rattle.lines.specs.Fields.{further}
-use Rattle.plantext.proofs.ValueLaws.{reads_on, no_field, no_place, place_more, places_over, places_all, taken_more}
+use Rattle.plantext.proofs.ValueLaws.{reads_on, no_field, no_place, place_more, places_all, taken_more}
 use Rattle.plantext.proofs.values.read_places.Goals as goal
 
-pub returns-in-err-next-field : goal.returns-in-err-next-field
-returns-in-err-next-field g c =
+pub returns-in_err-next_field : goal.returns-in_err-next_field
+returns-in_err-next_field g c =
     let row = g.T.Tariff.row in
     let places = (g.T.Tariff.scale c.args.tariff.now).places in
-    let some : 0 < places - c.loop-i.i = omega (arith, c.place-count-i-end.ensures) in
-    let none = no_field (take c.loop-i.i (row c.loop-i.amount)) (places - c.loop-i.i) _ some c.in-err-next-field.ensures.value.0 in
-    ap (option_map row) c.from-residual.ensures ∙ sym none ∙ c.loop-i.invariant
+    let some : 0 < places - c.loop-i.i = omega (arith, c.place_count-i-end.ensures) in
+    let none = no_field (take c.loop-i.i (row c.loop-i.amount)) (places - c.loop-i.i) _ some c.in_err-next_field.ensures.value.0 in
+    ap (option_map row) c.from_residual.ensures ∙ sym none ∙ c.loop-i.invariant
 
-pub returns-in-err-place : goal.returns-in-err-place
-returns-in-err-place g c =
+pub returns-in_err-place : goal.returns-in_err-place
+returns-in_err-place g c =
     let row = g.T.Tariff.row in
     let places = (g.T.Tariff.scale c.args.tariff.now).places in
-    let some : 0 < places - c.loop-i.i = omega (arith, c.place-count-i-end.ensures) in
-    let none = no_place (take c.loop-i.i (row c.loop-i.amount)) (places - c.loop-i.i) _ _ _ some c.in-ok-next-field.ensures.value (sym c.in-err-place.ensures.value) in
-    ap (option_map row) c.from-residual-in-err-place.ensures ∙ sym none ∙ c.loop-i.invariant
+    let some : 0 < places - c.loop-i.i = omega (arith, c.place_count-i-end.ensures) in
+    let none = no_place (take c.loop-i.i (row c.loop-i.amount)) (places - c.loop-i.i) _ _ _ some c.in_ok-next_field.ensures.value (sym c.in_err-place.ensures.value) in
+    ap (option_map row) c.from_residual-in_err-place.ensures ∙ sym none ∙ c.loop-i.invariant
 
 pub loop-i-preserved : goal.loop-i-preserved
 loop-i-preserved g c =
@@ -29,12 +29,12 @@ loop-i-preserved g c =
     let i = c.loop-i.i in
     let z : ℤ = c.in_ok-place.place in
     let f : SFits w64 z = search rules in
-    let set_is : row c.in-ok-amount.amount ≡ set (row c.loop-i.amount) i z = simp to_z-of_z at c.in-ok-amount.ensures.1 in
+    let set_is : row c.in_ok-amount.amount ≡ set (row c.loop-i.amount) i z = simp to_z-of_z at c.in_ok-amount.ensures.1 in
     let long = g.met.T.Tariff.fits c.args.tariff.now c.loop-i.amount in
-    let inside : i < length (row c.loop-i.amount) = omega (arith, c.place-count-i-end.ensures) in
-    let left : places - i ≡ suc (places - (i + 1)) = omega (arith, c.place-count-i-end.ensures) in
-    ap (λ p. reads_on p (places - (i + 1)) (further c.next-field.new.self.rest)) (taken_more (row c.loop-i.amount) (row c.in-ok-amount.amount) i z set_is inside)
-    ∙ place_more (take i (row c.loop-i.amount)) z (places - i) (places - (i + 1)) _ _ _ left c.in-ok-next-field.ensures.value (sym c.in_ok-place.ensures.value)
+    let inside : i < length (row c.loop-i.amount) = omega (arith, c.place_count-i-end.ensures) in
+    let left : places - i ≡ suc (places - (i + 1)) = omega (arith, c.place_count-i-end.ensures) in
+    ap (λ p. reads_on p (places - (i + 1)) (further c.next_field.new.self.rest)) (taken_more (row c.loop-i.amount) (row c.in_ok-amount.amount) i z set_is inside)
+    ∙ place_more (take i (row c.loop-i.amount)) z (places - i) (places - (i + 1)) _ _ _ left c.in_ok-next_field.ensures.value (sym c.in_ok-place.ensures.value)
     ∙ c.loop-i.invariant
 
 pub returns-in-None : goal.returns-in-None

@@ -1,4 +1,4 @@
-use Rattle.std.proofs.Common.{◌≡◌, ℕ, ◌-◌, true, false, List, map, length, Some, None, Option, sym, ap, ◌∙◌, subst, arith, rules}
+use Rattle.std.proofs.Common.{◌≡◌, ℕ, ◌-◌, List, map, length, Some, None, Option, sym, ap, ◌∙◌, subst, arith, rules}
 use Rattle.std.specs.List.{slice_get}
 use Rattle.std.specs.Option.{option_map}
 use Rattle.std.proofs.lemmas.List.{length-map}
@@ -7,7 +7,6 @@ use Rattle.plantext.specs.declared.stage.Stage.{Stage}
 use Rattle.plantext.specs.Lines.{Plan, stages, stage_line, plan_lines}
 use Rattle.plantext.specs.Spaces.{level, line_room, HeldLine}
 use Rattle.plantext.proofs.LineLaws.{line_at, put_front, not-level, past-last, line-written, line-too-long, no_room}
-use Rattle.plantext.proofs.writing.plan_line.Given as given
 use Rattle.plantext.proofs.writing.plan_line.Goals as goal
 
 -- the tables are level as rows too
@@ -25,30 +24,30 @@ stage_held places p xs j a b same found is h =
     let equal : a ≡ b = cc in
     subst (HeldLine places p) equal h
 
-pub returns-then-not-is-level : goal.returns-then-not-is-level
-returns-then-not-is-level g c = record {
-  line = not-level _ c.args.j c.args.space.now (level_rows g.T.Tariff.row c.args.values.now (length c.args.policy.now) c.if-not-is-level.ensures);
+pub returns-then-not-is_level : goal.returns-then-not-is_level
+returns-then-not-is_level g c = record {
+  line = not-level _ c.args.j c.args.space.now (level_rows g.T.Tariff.row c.args.values.now (length c.args.policy.now) c.if-not-is_level.ensures);
   held = tt;
   tight = tt;
 }
 
-pub returns-in-default : goal.returns-in-default
-returns-in-default g c =
+pub returns-in_default : goal.returns-in_default
+returns-in_default g c =
     let p : Plan = record { values = map g.T.Tariff.row c.args.values.now; policy = c.args.policy.now; low = g.T.Tariff.row c.args.low; high = g.T.Tariff.row c.args.high } in
-    let h = level_rows g.T.Tariff.row c.args.values.now (length c.args.policy.now) c.if-not-is-level.ensures in
-    record { line = past-last p c.args.j c.args.space.now h (line_found p c.args.values.now c.args.j None (length-map c.args.values.now g.T.Tariff.row) c.in-default.ensures.value); held = tt; tight = tt }
+    let h = level_rows g.T.Tariff.row c.args.values.now (length c.args.policy.now) c.if-not-is_level.ensures in
+    record { line = past-last p c.args.j c.args.space.now h (line_found p c.args.values.now c.args.j None (length-map c.args.values.now g.T.Tariff.row) c.in_default.ensures.value); held = tt; tight = tt }
 
-pub returns-in-Some-write-bytes : goal.returns-in-Some-write-bytes
-returns-in-Some-write-bytes g c =
+pub returns-in-Some-write_bytes : goal.returns-in-Some-write_bytes
+returns-in-Some-write_bytes g c =
     let p : Plan = record { values = map g.T.Tariff.row c.args.values.now; policy = c.args.policy.now; low = g.T.Tariff.row c.args.low; high = g.T.Tariff.row c.args.high } in
     let l = stage_line p c.in-Some.stage in
-    let h = level_rows g.T.Tariff.row c.args.values.now (length c.args.policy.now) c.if-not-is-level.ensures in
+    let h = level_rows g.T.Tariff.row c.args.values.now (length c.args.policy.now) c.if-not-is_level.ensures in
     let is = line_found p c.args.values.now c.args.j (Some c.in-Some.stage) (length-map c.args.values.now g.T.Tariff.row) c.in-Some.ensures.value in
-    let front = put_front c.put-line-length.ensures.text in
-    let wrote = c.in-Some-write-bytes.ensures in
+    let front = put_front c.put_line-length.ensures.text in
+    let wrote = c.in-Some-write_bytes.ensures in
     record {
-      line = line-written p c.args.j c.args.space.now h l c.write-bytes.new.out c.in-Some-write-bytes.end is (sym (wrote.end ∙ ap (λ t. end_of t 0 c.args.space.now) front)) (wrote.after ∙ ap (λ t. placed t 0 c.args.space.now) front);
-      held = λ st e. stage_held (g.T.Tariff.scale c.args.tariff.now).places p c.args.values.now c.args.j c.in-Some.stage st (length-map c.args.values.now g.T.Tariff.row) c.in-Some.ensures.value e c.put-line-length.ensures.held;
+      line = line-written p c.args.j c.args.space.now h l c.write_bytes.new.out c.in-Some-write_bytes.end is (sym (wrote.end ∙ ap (λ t. end_of t 0 c.args.space.now) front)) (wrote.after ∙ ap (λ t. placed t 0 c.args.space.now) front);
+      held = λ st e. stage_held (g.T.Tariff.scale c.args.tariff.now).places p c.args.values.now c.args.j c.in-Some.stage st (length-map c.args.values.now g.T.Tariff.row) c.in-Some.ensures.value e c.put_line-length.ensures.held;
       tight = tt;
     }
 
@@ -56,9 +55,9 @@ pub returns-in-None : goal.returns-in-None
 returns-in-None g c =
     let p : Plan = record { values = map g.T.Tariff.row c.args.values.now; policy = c.args.policy.now; low = g.T.Tariff.row c.args.low; high = g.T.Tariff.row c.args.high } in
     let l = stage_line p c.in-Some.stage in
-    let h = level_rows g.T.Tariff.row c.args.values.now (length c.args.policy.now) c.if-not-is-level.ensures in
+    let h = level_rows g.T.Tariff.row c.args.values.now (length c.args.policy.now) c.if-not-is_level.ensures in
     let is = line_found p c.args.values.now c.args.j (Some c.in-Some.stage) (length-map c.args.values.now g.T.Tariff.row) c.in-Some.ensures.value in
-    let front = put_front c.put-line-length.ensures.text in
+    let front = put_front c.put_line-length.ensures.text in
     let wrote = c.in-None.ensures in
-    let room : length c.put-line-length.new.out ≡ line_room = search rules in
-    record { line = line-too-long p c.args.j c.args.space.now h l c.write-bytes.new.out is (sym (wrote.end ∙ ap (λ t. end_of t 0 c.args.space.now) front)) (wrote.after ∙ ap (λ t. placed t 0 c.args.space.now) front); held = tt; tight = omega (arith, no_room (c.put-line-length.result - 0) c.put-line-length.new.out c.args.space.now wrote.end, room) }
+    let room : length c.put_line-length.new.out ≡ line_room = search rules in
+    record { line = line-too-long p c.args.j c.args.space.now h l c.write_bytes.new.out is (sym (wrote.end ∙ ap (λ t. end_of t 0 c.args.space.now) front)) (wrote.after ∙ ap (λ t. placed t 0 c.args.space.now) front); held = tt; tight = omega (arith, no_room (c.put_line-length.result - 0) c.put_line-length.new.out c.args.space.now wrote.end, room) }

@@ -8,8 +8,8 @@ returns g c =
     let long = g.met.T.Tariff.fits c.args.tariff.now c.args.value in
     let lawful = g.met.T.Tariff.lawful c.args.tariff.now in
     let some : 0 < length u = omega (arith, lawful.some_places) in
-    let pieces = put_more (put_more (put_more (put_more c.put-number-at.ensures.text c.put-bytes-at.ensures) c.put-number-at-2.ensures.text) c.put-bytes-at-2.ensures) c.put-amount-at.ensures.text in
+    let pieces = put_more (put_more (put_more (put_more c.put_number-at.ensures.text c.put_bytes-at.ensures) c.put_number-at-2.ensures.text) c.put_bytes-at-2.ensures) c.put_amount-at.ensures.text in
     record {
-      text = put_line (codes "row") c.put-key-at.ensures (put_as (row_value (decimal c.args.state) (decimal c.args.portfolio) u some) pieces) c.put-bytes.ensures;
-      held = c.put-amount-at.ensures.held;
+      text = put_line (codes "row") c.put_key-at.ensures (put_as (row_value (decimal c.args.state) (decimal c.args.portfolio) u some) pieces) c.put_bytes.ensures;
+      held = c.put_amount-at.ensures.held;
     }

@@ -1,5 +1,4 @@
-use Rattle.std.proofs.Common.{◌≡◌, ◌+◌, ◌^◌, ◌<◌, ◌≤◌, length, sym, ap, ◌∙◌, arith, w64, SFits}
-use lib.Signed.{mag}
+use Rattle.std.proofs.Common.{◌+◌, ◌≤◌, length, sym, arith, w64, SFits}
 use Rattle.std.specs.Fmt.{signed_decimal}
 use Rattle.std.proofs.lemmas.Int.{to_z-of_z}
 use Rattle.plantext.proofs.Puts.{no_room, end_size, signed_short}

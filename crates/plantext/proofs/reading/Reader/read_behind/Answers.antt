@@ -21,12 +21,12 @@ loop-self-preserved g c =
     let lawful = g.met.T.Tariff.lawful c.args.tariff.now in
     line_taken _ _ _ _ _ _ _ _ _ _ lawful.some_places c.requires.states c.loop-self.invariant h.0 h.1
 
-pub returns-in-err-read-line : goal.returns-in-err-read-line
-returns-in-err-read-line g c =
-    let h = c.in-err-read-line.ensures.line in
-    let p = err_from_is_err_and c.from-residual.result c.from-residual.ensures.1 in
-    let refused = line_refused _ _ _ _ _ _ _ c.loop-self.self.due h.0 (sym c.is-some.ensures ∙ c.loop-self-test.true) c.loop-self.invariant h.1.0 in
-    behind_refused (g.T.Tariff.scale c.args.tariff.now).places (length c.args.values.now) (progress g.T.Tariff.row c.read_line.new.self c.read_line.new.values c.read_line.new.policy).plan c.args.lines.now.rest.now c.args.lines.now.place c.from-residual.result p.0 _ p.1 (p.2 ∙ h.1.1) refused
+pub returns-in_err-read_line : goal.returns-in_err-read_line
+returns-in_err-read_line g c =
+    let h = c.in_err-read_line.ensures.line in
+    let p = err_from_is_err_and c.from_residual.result c.from_residual.ensures.1 in
+    let refused = line_refused _ _ _ _ _ _ _ c.loop-self.self.due h.0 (sym c.is_some.ensures ∙ c.loop-self-test.true) c.loop-self.invariant h.1.0 in
+    behind_refused (g.T.Tariff.scale c.args.tariff.now).places (length c.args.values.now) (progress g.T.Tariff.row c.read_line.new.self c.read_line.new.values c.read_line.new.policy).plan c.args.lines.now.rest.now c.args.lines.now.place c.from_residual.result p.0 _ p.1 (p.2 ∙ h.1.1) refused
 
-pub returns-else-not-at-end : goal.returns-else-not-at-end
-returns-else-not-at-end g c = all_read _ _ _ _ _ _ _ _ (sym c.is-some.ensures ∙ c.loop-self-test.false) (sym c.at_end.ensures ∙ c.if-not-at-end.false) c.requires.states c.requires.few c.loop-self.invariant
+pub returns-else-not-at_end : goal.returns-else-not-at_end
+returns-else-not-at_end g c = all_read _ _ _ _ _ _ _ _ (sym c.is_some.ensures ∙ c.loop-self-test.false) (sym c.at_end.ensures ∙ c.if-not-at_end.false) c.requires.states c.requires.few c.loop-self.invariant

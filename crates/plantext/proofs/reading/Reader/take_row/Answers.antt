@@ -1,4 +1,4 @@
-use Rattle.std.proofs.Common.{◌≡◌, map, Some, sym, refl, ap, ◌∙◌}
+use Rattle.std.proofs.Common.{Some, sym, refl, ap, ◌∙◌}
 use Rattle.std.proofs.lemmas.List.{map-set, length-map, length-set}
 use Rattle.plantext.specs.Progress.{after_row}
 use Rattle.plantext.specs.Reading.{unread}

@@ -1,4 +1,4 @@
-use Rattle.std.proofs.Common.{◌≡◌, ◌+◌, ◌-◌, ◌<◌, ◌≤◌, Some, sym, ap, ◌∙◌, zero-add, arith}
+use Rattle.std.proofs.Common.{◌≡◌, ◌-◌, ◌≤◌, Some, sym, ap, ◌∙◌, zero-add, arith}
 use Rattle.std.specs.List.{slice_get}
 use Rattle.plantext.specs.declared.stage.Stage.TheVariants.{Row}
 use Rattle.plantext.proofs.LineLaws.{row-stage, end-stage, no_stage, stage_past, row_stages}
