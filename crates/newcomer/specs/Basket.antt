@@ -1,6 +1,6 @@
 -- A tariff of three places: seconds, cents, and a fee for every second. Rows are compared by the sum of their places, so that
 -- different rows can be each at most the other.
-use Rattle.std.specs.Prelude.{Bool, [], ◌∷◌, ℤ, pos, ◌+ℤ◌, int_le}
+use Rattle.std.specs.Prelude.{[], ◌∷◌, ℤ, pos, ◌+ℤ◌, int_le}
 use Rattle.interface.specs.Rows.{Row}
 use Rattle.interface.specs.Tariffs.{Scale}
 

@@ -1,8 +1,7 @@
 -- A beacon lamp: state 0 is lit and state 1 is dark; portfolio 0 leaves it and portfolio 1 replaces it. A dark lamp must be
 -- replaced. It fails with one weight, whatever was done.
-use Rattle.std.specs.Prelude.{ℕ, ◌-◌, Bool, true, false, cond, ◌&&◌, ◌||◌, List, [], ◌∷◌, ◌==◌, nat_lt}
+use Rattle.std.specs.Prelude.{ℕ, ◌-◌, Bool, cond, ◌&&◌, ◌||◌, [], ◌∷◌, ◌==◌, nat_lt}
 use Rattle.interface.specs.declared.plant.Bill.{Bill}
-use Rattle.interface.specs.declared.plant.Outcome.{Outcome}
 use Rattle.interface.specs.Limits.{whole}
 use Rattle.interface.specs.Plants.{Model}
 

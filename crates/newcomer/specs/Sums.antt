@@ -1,6 +1,6 @@
 -- Rows compared by the sum of their places keep the laws of an order.
 use Rattle.std.specs.Prelude.{◌≡◌, ℕ, true, ◌⊎◌, [], ◌∷◌, length, ℤ, ◌+ℤ◌, int_le, refl}
-use Rattle.std.proofs.Common.{sym, ap, ◌∙◌, arith}
+use Rattle.std.proofs.Common.{arith}
 use Rattle.std.proofs.lemmas.Int.{ints}
 use Rattle.interface.specs.Rows.{Row, plus}
 use Rattle.newcomer.specs.Basket.{contents}
