@@ -73,11 +73,11 @@ module _ (text : List ℕ) (place : ℕ) (rest : List ℕ) (count : ℕ) where
 
   -- what was read up to the end, and what is made of it
   pub record Read (r : Result Chain ReadRefusal) : Type 0 where
-    pub reads : CountedChain text place rest count r
+    pub counts : CountedChain text place rest count r
     pub law : ReadsFrom text (answered r) rest
 
   pub refused_read : (e : ReadRefusal) → CountedReads fresh text place (refused_at e.rule e.line rest count) → Read (Err e)
-  refused_read e h = record { reads = inl h; law = refused_law e (inl h) }
+  refused_read e h = record { counts = inl h; law = refused_law e (inl h) }
 
   pub lines_lawful : (d : ChainReader) → CountedReads fresh text place (complete_at d rest count) → LawfulNumbers (numbers_of d)
   lines_lawful d h = (complete_wrote text place d rest count h).lawful
@@ -85,7 +85,7 @@ module _ (text : List ℕ) (place : ℕ) (rest : List ℕ) (count : ℕ) where
   pub made_read : (c : Complete) (r : Result Chain ReadRefusal) → ReadsLines text place rest count (Ok c) → MadeOf (numbers_of c.reader) c.line r → Read r
   made_read c (Ok p) h m =
       let a : CountedAccepted text place rest count p = record { reader = c.reader; reads = h.0; numbers = m.0 } in
-      record { reads = a; law = accepted_law p a (subst (λ n. all_states n ≤ most_states) (sym m.0) m.1.few) (subst Renewable (sym m.0) m.1.renewable) }
+      record { counts = a; law = accepted_law p a (subst (λ n. all_states n ≤ most_states) (sym m.0) m.1.few) (subst Renewable (sym m.0) m.1.renewable) }
   made_read c (Err e) h m =
       let u : CountedRefusal text place rest count e = inr (record { reader = c.reader; reads = h.0; lawful = lines_lawful c.reader h.0; line = m.0 ∙ h.1; why = m.1 }) in
-      record { reads = u; law = refused_law e u }
+      record { counts = u; law = refused_law e u }

@@ -9,9 +9,9 @@ returns-in-Err c =
     let d = c.reading.reader in
     let text = c.reading.lines.rest.now in
     let place = c.reading.lines.place in
-    let read = c.next-line-read.ensures in
-    let line : said c.next-line-read.result.line ≡ line_at text = read.line in
-    let err = took_err (line_step d (said c.next-line-read.result.line)) d c.take-line.new.self c.take-line.result c.in-Err.rule c.in-Err.is c.take-line.ensures in
+    let read = c.next_line-read.ensures in
+    let line : said c.next_line-read.result.line ≡ line_at text = read.line in
+    let err = took_err (line_step d (said c.next_line-read.result.line)) d c.take_line.new.self c.take_line.result c.in-Err.rule c.in-Err.is c.take_line.ensures in
     let steps : line_step d (line_at text) ≡ Err c.in-Err.rule = sym (ap (line_step d) line) ∙ err in
     c.reading.invariant.1 _ (refused-here d text place c.reading.invariant.0 _ _ read.rest (read.count ∙ ap (λ l. place + taken l) line) c.in-Err.rule _ read.place steps)
 
@@ -20,10 +20,10 @@ returns-in-Done c =
     let d = c.reading.reader in
     let text = c.reading.lines.rest.now in
     let place = c.reading.lines.place in
-    let read = c.next-line-read.ensures in
-    let line : said c.next-line-read.result.line ≡ line_at text = read.line in
-    let next = c.take-line.new.self in
-    let took = took_ok (line_step d (said c.next-line-read.result.line)) d next c.take-line.result c.in-default.not-Err c.take-line.ensures in
+    let read = c.next_line-read.ensures in
+    let line : said c.next_line-read.result.line ≡ line_at text = read.line in
+    let next = c.take_line.new.self in
+    let took = took_ok (line_step d (said c.next_line-read.result.line)) d next c.take_line.result c.in_default.not-Err c.take_line.ensures in
     let steps : line_step d (line_at text) ≡ Ok next = sym (ap (line_step d) line) ∙ took in
     let last = complete-here d text place c.reading.invariant.0 _ _ read.rest (read.count ∙ ap (λ l. place + taken l) line) next steps c.in-Done.is in
     (c.reading.invariant.1 _ last.0, read.place ∙ last.1)
@@ -32,10 +32,10 @@ pub reading-smaller : goal.reading-smaller
 reading-smaller c =
     let d = c.reading.reader in
     let text = c.reading.lines.rest.now in
-    let read = c.next-line-read.ensures in
-    let line : said c.next-line-read.result.line ≡ line_at text = read.line in
-    let next = c.take-line.new.self in
-    let took = took_ok (line_step d (said c.next-line-read.result.line)) d next c.take-line.result c.in-default.not-Err c.take-line.ensures in
+    let read = c.next_line-read.ensures in
+    let line : said c.next_line-read.result.line ≡ line_at text = read.line in
+    let next = c.take_line.new.self in
+    let took = took_ok (line_step d (said c.next_line-read.result.line)) d next c.take_line.result c.in_default.not-Err c.take_line.ensures in
     let steps : line_step d (line_at text) ≡ Ok next = sym (ap (line_step d) line) ∙ took in
     subst (λ w. length w < length text) (sym read.rest) (shorter d next text steps)
 
@@ -44,11 +44,11 @@ reading-preserved c =
     let d = c.reading.reader in
     let text = c.reading.lines.rest.now in
     let place = c.reading.lines.place in
-    let read = c.next-line-read.ensures in
-    let line : said c.next-line-read.result.line ≡ line_at text = read.line in
-    let next = c.take-line.new.self in
-    let took = took_ok (line_step d (said c.next-line-read.result.line)) d next c.take-line.result c.in-default.not-Err c.take-line.ensures in
+    let read = c.next_line-read.ensures in
+    let line : said c.next_line-read.result.line ≡ line_at text = read.line in
+    let next = c.take_line.new.self in
+    let took = took_ok (line_step d (said c.next_line-read.result.line)) d next c.take_line.result c.in_default.not-Err c.take_line.ensures in
     let steps : line_step d (line_at text) ≡ Ok next = sym (ap (line_step d) line) ∙ took in (
-      c.in-default-stage.not-Done,
+      c.in_default-stage.not-Done,
       λ o reads. c.reading.invariant.1 o (further d text place c.reading.invariant.0 _ _ read.rest (read.count ∙ ap (λ l. place + taken l) line) next o steps reads),
     )
