@@ -25,7 +25,7 @@ fn reply_under<P: Plant>(
 ) -> Result<Reply, AllocError>
     requires rate { RateInRange tariff }
     requires few { sweeps.count ≤ most_sweeps }
-    ensures { IfOk result (PlansAs (model plant.now) (scale_of tariff) sweeps) }
+    ensures { IfOk result (PlansAs (P.model plant.now) (scale_of tariff) sweeps) }
 {
     match tariff {
         TariffChoice::Priced(rate) => match Priced::new(rate) {
@@ -42,7 +42,7 @@ pub(crate) fn reply_behind<P: Plant>(
     plant: &P,
     lines: &mut Lines,
 ) -> Result<Reply, AllocError>
-    ensures { MatchResult result (BehindPlant (model plant.now) lines.old.rest.now lines.old.place) (λ _. Tail lines.old.rest.now) }
+    ensures { MatchResult result (BehindPlant (P.model plant.now) lines.old.rest.now lines.old.place) (λ _. Tail lines.old.rest.now) }
 {
     let tariff = match read_tariff(lines) {
         Ok(tariff) => tariff,

@@ -34,10 +34,10 @@ fn plan_into<P: Plant, T: Tariff>(
     out: &mut Vec<u8>,
 ) -> Result<Option<usize>, AllocError>
     requires few { sweeps ≤ most_sweeps }
-    requires values { length values.old ≡ (model plant.now).states }
-    requires working { length working.old ≡ (model plant.now).states }
-    requires policy { length policy.old ≡ (model plant.now).states }
-    ensures { IfOk result (λ o. MatchOption o (Wrote (model plant.now) (scale tariff.now) sweeps out.old.items out.new.items) (λ s. HaltsAt (model plant.now) (scale tariff.now) sweeps s × (out.new.items ≡ out.old.items))) }
+    requires values { length values.old ≡ (P.model plant.now).states }
+    requires working { length working.old ≡ (P.model plant.now).states }
+    requires policy { length policy.old ≡ (P.model plant.now).states }
+    ensures { IfOk result (λ o. MatchOption o (Wrote (P.model plant.now) (T.scale tariff.now) sweeps out.old.items out.new.items) (λ s. HaltsAt (P.model plant.now) (T.scale tariff.now) sweeps s × (out.new.items ≡ out.old.items))) }
 {
     match plan(plant, tariff, sweeps, values, working, policy) {
         Ok(claims) => {
@@ -57,7 +57,7 @@ pub(crate) fn reply_with<P: Plant, T: Tariff>(
     sweeps: SweepsLine,
 ) -> Result<Reply, AllocError>
     requires { sweeps.count ≤ most_sweeps }
-    ensures { IfOk result (PlansAs (model plant.now) (scale tariff.now) sweeps) }
+    ensures { IfOk result (PlansAs (P.model plant.now) (T.scale tariff.now) sweeps) }
 {
     let states = plant.states();
     let mut values = table(heap, tariff.zero(), states)?;

@@ -23,7 +23,7 @@ fn line_into<T: Tariff>(
     requires few { length values.now ≤ most_states }
     requires level { length policy.now ≡ length values.now }
     requires inside { j < length values.now + 4 }
-    ensures { Written (plan_of row values.now policy.now claims) j space.new result }
+    ensures { Written (plan_of T.Tariff.row values.now policy.now claims) j space.new result }
 {
     let written = match plan_line(tariff, values, policy, claims.low, claims.high, j, space) {
         Ok(written) => written,
@@ -48,7 +48,7 @@ fn push_line<T: Tariff>(
     requires few { length values.now ≤ most_states }
     requires level { length policy.now ≡ length values.now }
     requires inside { j < length values.now + 4 }
-    ensures { OnOk result (Pushed (plan_of row values.now policy.now claims) j out.old.items out.new.items) }
+    ensures { OnOk result (Pushed (plan_of T.Tariff.row values.now policy.now claims) j out.old.items out.new.items) }
 {
     let mut space = [0; LINE_ROOM];
     let length = line_into(tariff, values, policy, claims, j, &mut space);
@@ -66,7 +66,7 @@ pub(crate) fn push_plan<T: Tariff>(
     requires some { 1 ≤ length values.now }
     requires few { length values.now ≤ most_states }
     requires level { length policy.now ≡ length values.now }
-    ensures { OnOk result (out.new.items ≡ out.old.items ++ plan_text (plan_of row values.now policy.now claims)) }
+    ensures { OnOk result (out.new.items ≡ out.old.items ++ plan_text (plan_of T.Tariff.row values.now policy.now claims)) }
 {
     // The rows, the lines before them, and the end.
     let count = values.len() + LINES_BEFORE_ROWS + 1;

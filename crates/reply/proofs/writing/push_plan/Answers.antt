@@ -5,7 +5,7 @@ use Rattle.reply.proofs.PlanLines.{one_more, all_lines}
 use Rattle.reply.proofs.writing.push_plan.Goals as goal
 
 pub loop-j-preserved : goal.loop-j-preserved
-loop-j-preserved g c = one_more _ _ _ _ _ c.loop-j.invariant c.in-ok-push-line.ensures
+loop-j-preserved g c = one_more _ _ _ _ _ c.loop-j.invariant c.in_ok-push_line.ensures
 
 pub returns : goal.returns
 returns g c =
