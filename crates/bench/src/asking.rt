@@ -7,7 +7,7 @@ use interface::plant::Plant;
 
 // The outcomes of a pair, up to one past the last.
 fn ask_outcomes<P: Plant>(plant: &P, state: usize, portfolio: usize, before: u64) -> u64
-    ensures { result ≡ outcomes_asked (model plant.now) state portfolio before }
+    ensures { result ≡ outcomes_asked (P.model plant.now) state portfolio before }
 {
     let count = plant.outcome_count(state, portfolio);
     let mut digest = mix(before, count as u64);
@@ -19,7 +19,7 @@ fn ask_outcomes<P: Plant>(plant: &P, state: usize, portfolio: usize, before: u64
 
 // All questions of one pair of state and portfolio.
 fn ask_pair<P: Plant>(plant: &P, state: usize, portfolio: usize, before: u64) -> u64
-    ensures { result ≡ pair_asked (model plant.now) state portfolio before }
+    ensures { result ≡ pair_asked (P.model plant.now) state portfolio before }
 {
     let flagged = mix_flag(before, plant.feasible(state, portfolio));
     let billed = mix_bill(flagged, plant.bill(state, portfolio));
@@ -28,7 +28,7 @@ fn ask_pair<P: Plant>(plant: &P, state: usize, portfolio: usize, before: u64) ->
 
 // All pairs of one state, up to one portfolio past the last.
 fn ask_state<P: Plant>(plant: &P, state: usize, before: u64) -> u64
-    ensures { result ≡ state_asked (model plant.now) state before }
+    ensures { result ≡ state_asked (P.model plant.now) state before }
 {
     let portfolios = plant.portfolios();
     let mut digest = before;
@@ -40,7 +40,7 @@ fn ask_state<P: Plant>(plant: &P, state: usize, before: u64) -> u64
 
 // All states, up to one past the last.
 fn ask_plant<P: Plant>(plant: &P, before: u64) -> u64
-    ensures { result ≡ plant_asked (model plant.now) before }
+    ensures { result ≡ plant_asked (P.model plant.now) before }
 {
     let states = plant.states();
     let mut digest = mix(mix(before, states as u64), plant.portfolios() as u64);
@@ -52,7 +52,7 @@ fn ask_plant<P: Plant>(plant: &P, before: u64) -> u64
 
 // The whole, asked so many times.
 pub(crate) fn ask_rounds<P: Plant>(plant: &P, rounds: u32) -> u64
-    ensures { result ≡ asked_again (model plant.now) rounds }
+    ensures { result ≡ asked_again (P.model plant.now) rounds }
 {
     let mut digest = 0;
     for _round in 0..rounds {

@@ -18,7 +18,7 @@ use tariffs::priced::Priced;
 
 // The digest with all places of an amount.
 fn mix_amount<T: Tariff>(tariff: &T, before: u64, amount: T::Amount) -> u64
-    ensures { result ≡ with_row (scale tariff.now).places before (row amount) }
+    ensures { result ≡ with_row (T.scale tariff.now).places before (T.Tariff.row amount) }
 {
     let mut digest = before;
     for i in 0..tariff.place_count() {
@@ -28,7 +28,7 @@ fn mix_amount<T: Tariff>(tariff: &T, before: u64, amount: T::Amount) -> u64
 }
 
 fn mix_values<T: Tariff>(tariff: &T, before: u64, values: &[T::Amount]) -> u64
-    ensures { result ≡ fold (with_row (scale tariff.now).places) before (map row values.now) }
+    ensures { result ≡ fold (with_row (T.scale tariff.now).places) before (map T.Tariff.row values.now) }
 {
     let mut digest = before;
     for value in values {
@@ -54,7 +54,7 @@ fn tell_plan<T: Tariff>(
     values: &[T::Amount],
     policy: &[u16],
 ) -> u64
-    ensures { result ≡ plan_told row (scale tariff.now) claims values.now policy.now }
+    ensures { result ≡ plan_told T.Tariff.row (T.scale tariff.now) claims values.now policy.now }
 {
     let low = mix_amount(tariff, 0, claims.low);
     let high = mix_amount(tariff, low, claims.high);
@@ -70,7 +70,7 @@ fn plan_into<P: Plant, T: Tariff>(
     working: &mut [T::Amount],
     policy: &mut [u16],
 ) -> Result<u64, Refusal>
-    ensures { Plans row (model plant.now) (scale tariff.now) sweeps (record { values = values.entry.now; working = working.old; policy = policy.old }) (record { values = values.exit.now; working = working.new; policy = policy.new }) result }
+    ensures { Plans T.Tariff.row (P.model plant.now) (T.scale tariff.now) sweeps (record { values = values.old; working = working.old; policy = policy.old }) (record { values = values.new; working = working.new; policy = policy.new }) result }
 {
     match plan(plant, tariff, sweeps, values, working, policy) {
         Ok(claims) => Ok(tell_plan(tariff, claims, values, policy)),

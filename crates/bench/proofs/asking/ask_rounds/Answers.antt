@@ -6,4 +6,4 @@ use Rattle.bench.proofs.asking.ask_rounds.Goals as goal
 pub loop-round-preserved : goal.loop-round-preserved
 loop-round-preserved g c =
     let m = g.P.Plant.model c.args.plant.now in
-    c.ask-plant-digest.ensures ∙ ap (plant_asked m) c.loop-round.invariant ∙ sym (in_turn_more (λ _. plant_asked m) c.loop-round.-round 0)
+    c.ask_plant-digest.ensures ∙ ap (plant_asked m) c.loop-round.invariant ∙ sym (in_turn_more (λ _. plant_asked m) c.loop-round._round 0)

@@ -9,7 +9,7 @@ loop-value-preserved g c =
     let step = with_row (g.T.Tariff.scale c.args.tariff.now).places in
     let i = c.loop-value.value-index in
     let inside : i < length c.args.values.now = omega arith in
-    c.mix-amount-digest.ensures
+    c.mix_amount-digest.ensures
     ∙ ap (λ z. step z (row c.value-item.result)) c.loop-value.invariant
     ∙ sym (folded-map-more step row c.args.before c.args.values.now i c.value-item.result inside c.value-item.is)
 

@@ -6,4 +6,4 @@ pub returns : goal.returns
 returns c =
     let few : c.states-states.result ≤ 4096 = omega arith in
     let is = c.states-states.ensures in
-    (_, _, record { values = front_length _ _ _ few is; working = front_length _ _ _ few is; policy = front_length _ _ _ few is }, c.plan-into.ensures)
+    (_, _, record { values = front_length _ _ _ few is; working = front_length _ _ _ few is; policy = front_length _ _ _ few is }, c.plan_into.ensures)
