@@ -1,5 +1,5 @@
 -- One step more, and all of them.
-use Rattle.std.proofs.Common.{◌≡◌, ℕ, ◌+◌, ◌<◌, ◌≤◌, List, [], ◌∷◌, map, length, get_or, take, fold, sym, ap, ◌∙◌, add-one}
+use Rattle.std.proofs.Common.{◌≡◌, ℕ, ◌+◌, ◌<◌, ◌≤◌, List, map, length, get_or, take, fold, sym, ap, ◌∙◌, add-one}
 use Rattle.std.proofs.lemmas.List.{take_all, get_or-map, take-map, length-map}
 use Rattle.std.proofs.lemmas.List.Sums.{fold_more}
 use Rattle.bench.specs.Digests.{in_turn}

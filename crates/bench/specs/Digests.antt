@@ -1,5 +1,5 @@
 -- Numbers and answers mixed into one number.
-use Rattle.std.specs.Prelude.{ℕ, zero, suc, ◌+◌, ◌-◌, ◌*◌, ◌%◌, ◌^◌, Bool, cond, ℤ, pos, negsuc, nat_abs, Some, None, Option}
+use Rattle.std.specs.Prelude.{ℕ, zero, suc, ◌+◌, ◌-◌, ◌*◌, ◌%◌, ◌^◌, Bool, cond, ℤ, pos, negsuc, Some, None, Option}
 use Rattle.interface.specs.declared.plant.Bill.{Bill}
 use Rattle.interface.specs.declared.plant.Outcome.{Outcome}
 

@@ -1,4 +1,4 @@
-use Rattle.std.proofs.Common.{◌≡◌, sym, ap, ◌∙◌}
+use Rattle.std.proofs.Common.{sym, ap, ◌∙◌}
 use Rattle.bench.specs.Asking.{plant_asked}
 use Rattle.bench.proofs.Turns.{in_turn_more}
 use Rattle.bench.proofs.asking.ask_rounds.Goals as goal

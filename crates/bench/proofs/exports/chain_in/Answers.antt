@@ -1,4 +1,4 @@
-use Rattle.std.proofs.Common.{sym, subst}
+use Rattle.std.proofs.Common.{subst}
 use Rattle.chaintext.specs.Counted.{CountedChain}
 use Rattle.bench.proofs.exports.chain_in.Goals as goal
 

@@ -1,4 +1,4 @@
-use Rattle.std.proofs.Common.{◌≡◌, ◌<◌, ◌≤◌, length, sym, ap, ◌∙◌, arith}
+use Rattle.std.proofs.Common.{◌<◌, ◌≤◌, length, sym, ap, ◌∙◌, arith}
 use Rattle.bench.specs.Planning.{with_row}
 use Rattle.bench.proofs.Turns.{folded-map-more, folded-map-all}
 use Rattle.bench.proofs.planning.mix_values.Goals as goal
