@@ -1,9 +1,11 @@
 -- What the test of feasibility says.
-use Rattle.std.specs.Prelude.{◌≡◌, ℕ, ◌+◌, ◌-◌, ◌<◌, ◌≤◌, Bool, true, false, ◌&&◌, List, is_some, Some, None, Decides, MatchBool, Option, nat_le, nat_lt, refl}
+use Rattle.std.specs.Prelude.{◌≡◌, ℕ, ◌+◌, ◌-◌, ◌<◌, ◌≤◌, Bool, true, false, ◌&&◌, List, replicate, is_some, Some, None, Decides, MatchBool, Option, nat_le, nat_lt, refl}
 use Rattle.chain.specs.Renewals.{everything_holds, everything_renews, failure_decides, worn_decides}
 use Rattle.chain.specs.Sums.{over_alike}
 use Rattle.chain.specs.Chains.{Feasible, HasOrder, Renewable, RenewableBy, Survives, Unrenewable, chain_feasible, hazard_sum, hazards_at, least_order, survival, survives}
 use Rattle.chain.specs.Parts.{arcs_of, hazard}
+use Rattle.chain.specs.Over.{entry}
+use Rattle.std.proofs.lemmas.List.{get_or-replicate}
 use Rattle.chain.specs.Portfolios.{all_portfolios, everything, failure_renewed, worn_renewed}
 use Rattle.chain.specs.States.{age_in, all_states, failed_in}
 use Rattle.chain.specs.declared.numbers.ChainNumbers.{ChainNumbers}
@@ -89,12 +91,23 @@ module _ (n : ChainNumbers) (table : List (Option ℕ)) (few : n.count ≤ max_p
           let z : ◌≡◌ {A = ℕ} 0 1 = cc in
           omega arith
 
-  -- the same from the two tests that the code makes
-  pub renewable-tests : (x h : ℕ) (order lasts : Bool) → x ≡ all_portfolios n → order ≡ is_some (least_order table (x - 1)) → h ≡ hazards_at n (λ _. 0) → lasts ≡ survives n h
+  -- the same from two tests, where the hazards are those of all parts when they are new
+  pub renewable-when_new : (x h : ℕ) (order lasts : Bool) → x ≡ all_portfolios n → order ≡ is_some (least_order table (x - 1)) → h ≡ hazards_at n (λ _. 0) → lasts ≡ survives n h
+      → (order ≡ true → MatchBool lasts (Renewable n) (Unrenewable n)) × (order ≡ false → MatchBool order (Renewable n) (Unrenewable n))
+  renewable-when_new x h order lasts all is sum meets =
+      let there : is_some (least_order table (everything n)) ≡ order = ap (λ z. is_some (least_order table (z - 1))) (sym all) ∙ sym is in
+      let same : survives n (hazards_at n (λ _. 0)) ≡ lasts = ap (survives n) (sym sum) ∙ sym meets in (
+        λ t. renewable-when lasts (rw (there, t) (sym same)),
+        λ t. renewable-when order (rw (there, t)),
+      )
+
+  -- the same where they are those of a table of zeros
+  pub renewable-tests : (x h : ℕ) (order lasts : Bool) → x ≡ all_portfolios n → order ≡ is_some (least_order table (x - 1)) → h ≡ hazards_at n (entry (replicate max_parts 0)) → lasts ≡ survives n h
       → (order ≡ true → MatchBool lasts (Renewable n) (Unrenewable n)) × (order ≡ false → MatchBool order (Renewable n) (Unrenewable n))
   renewable-tests x h order lasts all is sum meets =
       let there : is_some (least_order table (everything n)) ≡ order = ap (λ z. is_some (least_order table (z - 1))) (sym all) ∙ sym is in
-      let same : survives n (hazards_at n (λ _. 0)) ≡ lasts = ap (survives n) (sym sum) ∙ sym meets in (
+      let new : h ≡ hazards_at n (λ _. 0) = sum ∙ over_alike _ _ n.count (λ i some most. ap (hazard n i) (get_or-replicate max_parts (i - 1) 0 0 (omega arith))) in
+      let same : survives n (hazards_at n (λ _. 0)) ≡ lasts = ap (survives n) (sym new) ∙ sym meets in (
         λ t. renewable-when lasts (rw (there, t) (sym same)),
         λ t. renewable-when order (rw (there, t)),
       )

@@ -79,3 +79,8 @@ entry_of_table n f i few some most =
     let back : i - 1 + 1 ≡ i = omega arith in
     let inside : i - 1 < n.count = omega arith in
     get_or-map-range_with_len (λ k. cond (nat_lt k n.count) (f (k + 1)) 0) 0 max_parts (i - 1) (i - 1) 0 (omega arith) (omega arith) ∙ cond-true (nat_lt (i - 1) n.count) (f (i - 1 + 1)) 0 (lt-ltb (i - 1) n.count inside) ∙ ap f back
+
+pub read_table : (n : ChainNumbers) (f : ℕ → ℕ) (xs : List ℕ) (k : ℕ) → n.count ≤ max_parts → k < n.count → xs ≡ table_of n f → slice_index xs k ≡ f (k + 1)
+read_table n f xs k few inside is =
+    let less : k + 1 - 1 ≡ k = omega arith in
+    ap (λ z. slice_index z k) is ∙ ap (λ z. slice_index (table_of n f) z) (sym less) ∙ entry_of_table n f (k + 1) few (omega arith) (omega arith)

@@ -1,4 +1,4 @@
-use Rattle.chain.specs.Endings.{next-at, next-inside, outcome_listed, outcome_past, weight-at}
+use Rattle.chain.specs.Endings.{next-at, next-inside, outcome_found, outcome_past, weight-at}
 use Rattle.chain.specs.LawsLemmas.{feasible-facts, lawful_from}
 use Rattle.chain.specs.Starting.{starts_below}
 use Rattle.chain.proofs.plant.ChainPlant.outcome.Goals as goal
@@ -35,4 +35,4 @@ returns c =
     weight-at n s x k c.in-Some.window is c.match-k.weight c.if-k-self.false
     (λ none. elim c.match-k.branch [ in-0 w ↦ w.weight-is | in_default-k w ↦ absurd (omega arith) ])
     (λ some. elim c.match-k.branch [ in-0 w ↦ absurd (omega arith) | in_default-k w ↦ w.weight-is ]) in
-    outcome_listed n p.least s x k _ _ c.in-Some.ensures.0 c.if-k-self.false (next-at n s x k c.in-Some.window is) weight
+    outcome_found n p.least s x k _ _ c.in-Some.ensures.0 c.if-k-self.false (next-at n s x k c.in-Some.window is) weight
