@@ -1,5 +1,5 @@
 -- What comes of a text, without what a refusal leaves of it and without how many lines were read then.
-use Rattle.std.proofs.Common.{◌≡◌, ℕ, List, Ok, Err, Result, refl, sym, subst, inl, inr, ⊎_elim, ◌⊎◌}
+use Rattle.std.proofs.Common.{ℕ, List, Ok, Err, Result, refl, sym, subst, inl, inr, ⊎_elim, ◌⊎◌}
 use Rattle.chain.specs.Refusals.{Refused}
 use Rattle.chain.specs.Parts.{LawfulNumbers}
 use Rattle.chain.specs.declared.numbers.ChainNumbers.{ChainNumbers}
@@ -10,7 +10,7 @@ use Rattle.reading.specs.declared.rules.ReadRefusal.{ReadRefusal}
 use Rattle.chaintext.specs.declared.reader.ChainReader.{ChainReader}
 use Rattle.chaintext.specs.Answers.{Accepted, ReadsChain, Replaced, Unmade}
 use Rattle.chaintext.specs.Counted.{CountedAccepted, CountedChain, CountedEnding, CountedReads, CountedRefusal, CountedReplaced, CountedUnmade, UnmadeBy, complete_at, done_at, more_at, refused_at, stop_at}
-use Rattle.chaintext.specs.Reads.{Ending, Reads, complete, done, fresh, more, numbers_of, refused, rule_for, stop}
+use Rattle.chaintext.specs.Reads.{Ending, Reads, complete, done, fresh, more, refused, rule_for, stop}
 
 -- why no chain was made, by the refusal of its making
 pub unmade_by : (n : ChainNumbers) (e : ChainRefusal) → LawfulNumbers n → Refused n e → UnmadeBy n (rule_for e)

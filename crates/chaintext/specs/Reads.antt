@@ -1,19 +1,15 @@
 -- What a text comes to, line by line, from what is read so far.
-use Rattle.std.specs.Prelude.{◌≡◌, ℕ, ◌+◌, ◌*◌, Bool, true, false, cond, List, replicate, Ok, Err, Result, ◌==◌, ◌≢◌}
+use Rattle.std.specs.Prelude.{◌≡◌, ℕ, ◌+◌, cond, List, replicate, Ok, Err, ◌==◌, ◌≢◌}
 use Rattle.lines.specs.Line.{Said, pair, fault, line_at, rest_at, bad_line}
 use Rattle.workorder.specs.Orders.{max_parts}
 use Rattle.chain.specs.Limits.{most_life, most_arcs}
-use Rattle.chain.specs.Refusals.{Refused}
 use Rattle.chain.specs.declared.numbers.ChainNumbers.{ChainNumbers}
 use Rattle.chain.specs.declared.numbers.Part.{Part}
-use Rattle.chain.specs.declared.plant.Chain.{Chain}
 use Rattle.chain.specs.declared.refusal.ChainRefusal.{ChainRefusal}
 use Rattle.chain.specs.declared.refusal.ChainRefusal.TheVariants as chain_refusal
 use Rattle.reading.specs.Keys.{key_of}
-use Rattle.reading.specs.declared.rules.ReadRefusal.{ReadRefusal}
 use Rattle.reading.specs.declared.rules.Rule.{Rule}
 use Rattle.reading.specs.declared.rules.Rule.TheVariants.{BadLine, Unexpected, OutOfRange, TooManyStates, NoFullRenewal}
-use Rattle.chaintext.specs.declared.reader.Stage.{Stage}
 use Rattle.chaintext.specs.declared.reader.Stage.TheVariants as stage
 use Rattle.chaintext.specs.declared.reader.ChainReader.{ChainReader}
 use Rattle.chaintext.specs.Steps.{Step, no_arc, chain_step}

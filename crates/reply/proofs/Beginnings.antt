@@ -1,5 +1,5 @@
 -- A request that was read from its first line on.
-use Rattle.std.proofs.Common.{◌≡◌, ℕ, List, Ok, Err, Result, sym, refl, ap, ◌∙◌, subst, inl, inr, MatchResult}
+use Rattle.std.proofs.Common.{◌≡◌, ℕ, List, Ok, Err, Result, refl, ap, ◌∙◌, subst, inl, inr, MatchResult}
 use Rattle.reading.specs.declared.rules.ReadRefusal.{ReadRefusal}
 use Rattle.chain.specs.Chains.{chain_model}
 use Rattle.chain.specs.declared.plant.Chain.{Chain}

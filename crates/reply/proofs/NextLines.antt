@@ -1,5 +1,5 @@
 -- From line to line behind the plant of a request.
-use Rattle.std.proofs.Common.{◌≡◌, ℕ, ◌+◌, List, ◌++◌, IfOk, None, Ok, Err, codes, Option, Result, sym, refl, ap, ◌∙◌, subst, arith, MatchResult}
+use Rattle.std.proofs.Common.{◌≡◌, ℕ, ◌+◌, List, ◌++◌, IfOk, None, Ok, Err, codes, Option, Result, refl, ap, ◌∙◌, subst, arith, MatchResult}
 use Rattle.std.proofs.lemmas.List.{append-nil}
 use Rattle.interface.specs.Plants.{Model}
 use Rattle.lines.specs.Line.{Said, pair, fault, line_at, rest_at, taken}

@@ -1,11 +1,11 @@
 -- The lines of a plan, one behind the other.
-use Rattle.std.proofs.Common.{◌≡◌, ℕ, zero, suc, ◌+◌, ◌-◌, ◌<◌, ◌≤◌, Bool, true, false, cond, ◌&&◌, eqb, leb, List, [], ◌∷◌, ◌++◌, map, length, take, is_ok, IfOk, Some, None, Ok, Err, Option, Result, sym, refl, ap, ◌∙◌, subst, add-one, arith}
+use Rattle.std.proofs.Common.{◌≡◌, ℕ, zero, suc, ◌+◌, ◌-◌, ◌<◌, ◌≤◌, Bool, true, false, cond, List, [], ◌∷◌, ◌++◌, map, length, take, is_ok, IfOk, Some, None, Ok, Err, Option, Result, sym, refl, ap, ◌∙◌, add-one, arith}
 use native.Mathlib.Nat.{sub-zero}
 use Rattle.std.specs.List.{slice_get, range_with_len}
 use Rattle.std.proofs.lemmas.List.{append_assoc, append-nil, length-append, length-map}
 use Rattle.std.proofs.lemmas.Bool.{leb-true, le-leb, eq-eqb}
 use Rattle.interface.specs.Limits.{most_states}
-use Rattle.lines.specs.Placed.{fits, end_of, placed}
+use Rattle.lines.specs.Placed.{fits}
 use Rattle.plantext.specs.declared.refusal.LineRefusal.{LineRefusal}
 use Rattle.plantext.specs.declared.refusal.LineRefusal.TheVariants.{WrongLength, NoSpace}
 use Rattle.plantext.specs.declared.stage.Stage.TheVariants.{Row, End}

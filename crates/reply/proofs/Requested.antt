@@ -1,5 +1,5 @@
 -- Exactly the requests are answered by their plan, or by the refusal of their sweeps.
-use Rattle.std.proofs.Common.{◌≡◌, ℕ, ◌+◌, ◌≤◌, ◌⊎◌, List, [], ◌∷◌, ◌++◌, take, Some, None, Ok, Err, codes, Option, Result, sym, refl, ap, ◌∙◌, subst, inl, inr, arith, MatchResult}
+use Rattle.std.proofs.Common.{◌≡◌, ℕ, ◌+◌, ◌≤◌, ◌⊎◌, List, [], ◌++◌, take, Some, None, Ok, Err, codes, Option, Result, sym, refl, ap, ◌∙◌, subst, inl, inr, arith, MatchResult}
 use Rattle.std.proofs.lemmas.List.{append_assoc, append-nil}
 use Rattle.interface.specs.Plants.{Model}
 use Rattle.lines.specs.Line.{rest_at}
@@ -24,14 +24,12 @@ use Rattle.request.specs.declared.kind.Kind.TheVariants as kind
 use Rattle.request.specs.declared.sweeps.SweepsLine.{SweepsLine}
 use Rattle.request.specs.declared.tariff.TariffChoice.{TariffChoice}
 use Rattle.request.specs.Requests.{read_kind, read_tariff, read_sweeps, read_end}
-use Rattle.request.specs.Writing.{kind_word, tariff_line, RateInRange, counted}
+use Rattle.request.specs.Writing.{tariff_line, RateInRange, counted}
 use Rattle.request.proofs.Written.{kind_read, tariff_read, sweeps_read, end_read}
-use Rattle.reply.specs.declared.answer.Refusal.{Refusal}
 use Rattle.reply.specs.declared.answer.Refusal.TheVariants.{Broken, BeyondReach}
 use Rattle.reply.specs.declared.answer.Reply.{Reply}
 use Rattle.reply.specs.declared.answer.Reply.TheVariants.{Plan, Refused}
-use Rattle.reply.specs.Laws.{SomeRequest, ChainFirst, PairFirst, PlantFirst, IsRequest, HasPlan, HasNoPlan, RefusedLaw, ReplyLaw}
-use Rattle.reply.specs.Plans.{PlanFor, HaltsAt}
+use Rattle.reply.specs.Laws.{SomeRequest, ChainFirst, PairFirst, PlantFirst, RefusedLaw, ReplyLaw}
 use Rattle.reply.specs.Replies.{scale_of, PlansAs, BrokenBy, AtEnd, AtSweeps, AtTariff, BehindPlant, AtChain, AtPair, RepliesToChain, RepliesToPair, AtKind, RepliesTo}
 
 -- the text behind a plant as it should be, and the reply to it

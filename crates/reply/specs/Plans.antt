@@ -1,5 +1,5 @@
 -- A plan as text: what the planner finds after so many sweeps, written line by line.
-use Rattle.std.specs.Prelude.{◌≡◌, ℕ, ◌<◌, ◌≤◌, List, ◌++◌, map, length, take, Some, None}
+use Rattle.std.specs.Prelude.{◌≡◌, ℕ, ◌<◌, ◌≤◌, List, ◌++◌, map, length, take, Some}
 use Rattle.std.specs.List.{slice_get}
 use Rattle.interface.specs.Plants.{Model}
 use Rattle.interface.specs.Rows.{Row}

@@ -1,4 +1,4 @@
-use Rattle.std.proofs.Common.{map, Ok, ap, subst, arith}
+use Rattle.std.proofs.Common.{Ok, subst, arith}
 use Rattle.std.proofs.lemmas.List.{length-map}
 use Rattle.plantext.specs.Spaces.{AnswersLine}
 use Rattle.reply.specs.Plans.{plan_of}
