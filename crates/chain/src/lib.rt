@@ -4,6 +4,7 @@
 mod charges;
 pub mod limits;
 pub mod numbers;
+mod outcomes;
 mod parts;
 pub mod plant;
 mod portfolios;

@@ -1,13 +1,14 @@
 // The parts of a chain.
-ghost use Rattle.std.specs.Prelude.{◌≡◌, ◌<◌, ◌≤◌, if◌then◌else◌, Some, None, nat_eq};
+ghost use Rattle.std.specs.Prelude.{◌≡◌, ℕ, ◌<◌, ◌≤◌, true, false, if◌then◌else◌, Some, None, MatchOption, nat_eq};
 ghost use Rattle.chain.specs.Chains.{hazards_at};
 ghost use Rattle.chain.specs.Limits.{most_life};
+ghost use Rattle.chain.specs.Over.{Entries, entry as the-entry};
 ghost use Rattle.chain.specs.Parts.{HazardsInRange, LawfulTerms, LivesInRange, hazard as the-hazard, life as the-life};
-ghost use Rattle.chain.specs.Portfolios.{renews as the-renews};
+ghost use Rattle.chain.specs.Portfolios.{renews as the-renews, start_age, worn_renewed};
 ghost use Rattle.workorder.specs.Orders.{max_parts};
 
 use crate::numbers::ChainNumbers;
-use workorder::holds;
+use workorder::{MAX_PARTS, holds};
 
 impl ChainNumbers {
     // The life of a part, from 1.
@@ -38,6 +39,36 @@ impl ChainNumbers {
         } else {
             Some(age)
         }
+    }
+
+    // The ages at which the parts start the window; absent exactly when a part at its life is not renewed.
+    pub(crate) fn start_ages(&self, state: usize, portfolio: usize) -> Option<[usize; MAX_PARTS]>
+        requires { (LawfulTerms self.now) × (LivesInRange self.now) }
+        ensures { MatchOption result (worn_renewed self.now state portfolio ≡ false) (λ starts. (worn_renewed self.now state portfolio ≡ true) × Entries (start_age self.now state portfolio) self.now.count starts) }
+    {
+        let ages = self.ages_in(state);
+        let mut starts = [0; MAX_PARTS];
+        for i in 0..self.count {
+            let renewed = renews(portfolio, i + 1);
+            let Some(start) = self.start_age(i + 1, ages[i], renewed) else {
+                return None;
+            };
+            starts[i] = start;
+        }
+        Some(starts)
+    }
+
+    // The hazards of all parts at the ages at which they start the window.
+    pub(crate) fn hazard_sum(&self, starts: &[usize; MAX_PARTS]) -> u32
+        requires lawful_terms { (LawfulTerms self.now) × ((LivesInRange self.now) × (HazardsInRange self.now)) }
+        requires by_index { (i : ℕ) → 1 ≤ i → i ≤ self.now.count → the-entry starts.now i < the-life self.now i }
+        ensures { result ≡ hazards_at self.now (the-entry starts.now) }
+    {
+        let mut total = 0;
+        for i in 0..self.count {
+            total += self.hazard(i + 1, starts[i]);
+        }
+        total
     }
 
     // The hazards of all parts together when all are new.

@@ -1,6 +1,6 @@
 // The chain as a plant.
 ghost use Rattle.std.specs.Prelude.{◌≡◌, ◌+◌, ◌<◌, ◌≤◌, Some, None, MatchResult};
-ghost use Rattle.chain.specs.Chains.{RenewableBy, chain_model, renewal_cents};
+ghost use Rattle.chain.specs.Chains.{RenewableBy, Starts, chain_model, renewal_cents};
 ghost use Rattle.chain.specs.Laws.{ChainLaws, Figures, LeastWithin, SomeChain};
 ghost use Rattle.chain.specs.Limits.{most_charge};
 ghost use Rattle.chain.specs.Made.{Made};
@@ -20,7 +20,7 @@ use crate::states::ChainState;
 use crate::windows::Window;
 use interface::limits::{MOST_STATES, WHOLE};
 use interface::plant::{Bill, Outcome, Plant};
-use workorder::{PORTFOLIOS, least_work_orders};
+use workorder::{MAX_PARTS, PORTFOLIOS, least_work_orders};
 
 #[derive(Clone, Copy)]
 pub struct Chain {
@@ -104,6 +104,26 @@ impl Chain {
             ages: self.numbers.ages_in(number),
             failed: self.numbers.failed_in(number),
         })
+    }
+
+    // The ages at which the parts start the window; there are none exactly when the pair is not feasible.
+    fn starts(&self, state: usize, portfolio: usize) -> Option<[usize; MAX_PARTS]>
+        ensures { Starts self.now.numbers self.now.least state portfolio result }
+    {
+        if state >= self.states || portfolio >= self.numbers.portfolio_count() {
+            return None;
+        }
+        let order = self.least[portfolio];
+        if !self.numbers.failure_renewed(state, portfolio) || order.is_none() {
+            return None;
+        }
+        let Some(starts) = self.numbers.start_ages(state, portfolio) else {
+            return None;
+        };
+        if !self.numbers.survives(self.numbers.hazard_sum(&starts)) {
+            return None;
+        }
+        Some(starts)
     }
 
     // The window of a pair, asked about one part; there is none exactly when the pair is not feasible.

@@ -42,7 +42,10 @@ loop-i-preserved c =
     let now = turn (goal.at.loop-i-preserved c).After-hazard-hazard in (
       now.0,
       λ some most. elim c.if-i-part.branch [
-        | then-i-part w ↦ (let here : c.loop-i.i + 1 ≡ c.args.part = w.if-i-part.true in w.asked-is ∙ now.1 ∙ ap (λ j. hazard n j (start_age n s x j)) here)
+        | then-i-part w ↦ (
+            let here : c.loop-i.i + 1 ≡ c.args.part = w.if-i-part.true in
+            let mine : c.if-i-part.asked ≡ hazard n (c.loop-i.i + 1) (start_age n s x (c.loop-i.i + 1)) = cc (now.1, w.asked-is) in
+            mine ∙ ap (λ j. hazard n j (start_age n s x j)) here)
         | else-i-part w ↦ w.asked-is ∙ c.loop-i.invariant.1 some (omega (arith, w.if-i-part.false))
       ],
     )
