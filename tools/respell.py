@@ -5,9 +5,9 @@ snake case, types and facts in upper camel case. Run once, at the top, after the
 usage: python3 tools/respell.py           rewrites .antt files, the clauses of .rt files and must-fail edits of specs/ in place
        python3 tools/respell.py --list    prints the names with their new spelling and rewrites nothing
 
-Names are taken from declarations in specs/ and proofs/: a name at the head of a line with its type, a record, a data type,
-their fields and constructors, a name given by 'as'. Goals of functions (declared by 'goal.') keep their names, and so do
-names of the code, strings and comments. Names that fall together in one file are printed, and nothing is written then.
+Names are taken from declarations in specs/ and proofs/: a name at the head of a line with its type (also in a module or behind
+'where'), a record, a data type, their fields and constructors, a name given by 'as' (in .rt files too). Goals of functions
+(declared by 'goal.') and steps of theirs (behind a dot) keep their names, and so do names of the code, strings and comments. Names that fall together in one file are printed, and nothing is written then.
 """
 
 import os
@@ -18,9 +18,10 @@ WORD = r"[^\s(){}\[\].,;\"«»@|=λ:]+"
 HEAD = re.compile(rf"^(?:(?:pub|abbrev|unfoldable|opaque) )*({WORD})(?: ({WORD}))* : (.*)$")
 TYPE = re.compile(rf"^\s*(?:pub )?(record|data) ({WORD})")
 FIELD = re.compile(rf"^  +(?:pub )?({WORD}) : ")
+NESTED = re.compile(rf"^ +(?:pub )?((?:{WORD} )*{WORD}) : ")
 ALIAS = re.compile(rf" as ({WORD})(?=[,}};\s]|$)")
 # Names that would fall together with another one.
-OTHERWISE = {"signed-numeral": "numeral_of_signed", "read-on": "read_on-here", "put-mid": "put_mid-here"}
+OTHERWISE = {"signed-numeral": "numeral_of_signed", "read-on": "read_on_here", "put-mid": "put_mid_here"}
 KEEP = {"record", "data", "where", "let", "in", "elim", "λ", "use", "pub", "module", "mod"}
 COUNTED = re.compile(r"[A-Za-z]")
 
@@ -50,6 +51,12 @@ def strip_comment(line):
 def declared(root):
     names = {}
     for path in antt_files(root):
+        if path.endswith(".rt"):
+            with open(path, encoding="utf-8") as f:
+                for line in f:
+                    if line.lstrip().startswith("ghost use "):
+                        for m in ALIAS.finditer(line):
+                            names.setdefault(m.group(1), set()).add("alias")
         if not path.endswith(".antt"):
             continue
         with open(path, encoding="utf-8") as f:
@@ -77,14 +84,31 @@ def declared(root):
                 m = FIELD.match(line)
                 if m:
                     names.setdefault(m.group(1), set()).add("field")
+            m = NESTED.match(line) if line[:1].isspace() else None
+            if m:
+                words = m.group(1).split()
+                if words[0] not in KEEP:
+                    for w in words:
+                        if "-" in w and re.search(rf"(?m)^ +{re.escape(w)}( .*)? =", "\n".join(lines)):
+                            names.setdefault(w, set()).add("nested")
     return names
 
 
 TOKEN = re.compile(WORD)
+# Names that are declared in a module or behind 'where' alone; main fills it.
+STEPS = set()
 
 
 def turn(text, table):
-    return TOKEN.sub(lambda m: table.get(m.group(0), m.group(0)), text)
+    """Turns the words of the text. A name that is declared in a module or behind 'where' alone is none behind a dot: there it is a step."""
+
+    def one(m):
+        new = table.get(m.group(0))
+        if new is None or (m.group(0) in STEPS and m.start() and text[m.start() - 1] == "."):
+            return m.group(0)
+        return new
+
+    return TOKEN.sub(one, text)
 
 
 def turn_antt(text, table):
@@ -139,6 +163,7 @@ def main():
     root = os.getcwd()
     names = declared(root)
     table = {}
+    STEPS.update(w for w, kinds in names.items() if kinds == {"nested"})
     for old, kinds in sorted(names.items()):
         new = OTHERWISE.get(old) or new_name(old, "type" in kinds)
         if new != old:

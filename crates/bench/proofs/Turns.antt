@@ -8,12 +8,12 @@ pub in_turn_more : (step : ℕ → ℕ → ℕ) (n d : ℕ) → in_turn step (n 
 in_turn_more step n d = ap (λ k. in_turn step k d) (add-one n)
 
 module _ {A B : Type 0} (step : ℕ → B → ℕ) (f : A → B) (d : ℕ) where
-  pub folded-map-more : (xs : List A) (i : ℕ) (y : A) → i < length xs → y ≡ get_or xs i y → fold step d (map f (take (i + 1) xs)) ≡ step (fold step d (map f (take i xs))) (f y)
-  folded-map-more xs i y inside is =
+  pub folded_map_more : (xs : List A) (i : ℕ) (y : A) → i < length xs → y ≡ get_or xs i y → fold step d (map f (take (i + 1) xs)) ≡ step (fold step d (map f (take i xs))) (f y)
+  folded_map_more xs i y inside is =
       let far : i < length (map f xs) = rw length-map inside in
       sym (ap (fold step d) (take-map f (i + 1) xs)) ∙ fold_more step d (map f xs) i (f y) far
       ∙ ap (λ z. step (fold step d z) (get_or (map f xs) i (f y))) (take-map f i xs)
       ∙ ap (step (fold step d (map f (take i xs)))) (get_or-map f xs i y (f y) inside ∙ ap f (sym is))
 
-  pub folded-map-all : (xs : List A) (i : ℕ) → length xs ≤ i → fold step d (map f (take i xs)) ≡ fold step d (map f xs)
-  folded-map-all xs i all = ap (λ z. fold step d (map f z)) (take_all i xs all)
+  pub folded_map_all : (xs : List A) (i : ℕ) → length xs ≤ i → fold step d (map f (take i xs)) ≡ fold step d (map f xs)
+  folded_map_all xs i all = ap (λ z. fold step d (map f z)) (take_all i xs all)

@@ -1,6 +1,6 @@
 // Numbers and answers mixed into one number, the digest, so that none can be left out unnoticed.
 ghost use Rattle.std.specs.Prelude.{◌≡◌};
-ghost use Rattle.bench.specs.Digests.{mix as the-mix, with_flag, with_bill, with_outcome, with_place};
+ghost use Rattle.bench.specs.Digests.{mix as the_mix, with_flag, with_bill, with_outcome, with_place};
 
 use interface::plant::{Bill, Outcome};
 
@@ -11,7 +11,7 @@ const ABSENT: u64 = u64::MAX;
 
 // The digest with one more number.
 pub(crate) fn mix(digest: u64, number: u64) -> u64
-    ensures { result ≡ the-mix digest number }
+    ensures { result ≡ the_mix digest number }
 {
     digest.wrapping_mul(MULTIPLIER).wrapping_add(number)
 }

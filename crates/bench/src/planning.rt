@@ -2,7 +2,7 @@
 ghost use Rattle.std.specs.Prelude.{◌≡◌, map, fold};
 ghost use Rattle.tariffs.specs.AirFirst.{air_first_scale};
 ghost use Rattle.tariffs.specs.Priced.{priced_scale};
-ghost use Rattle.bench.specs.Digests.{mix as the-mix};
+ghost use Rattle.bench.specs.Digests.{mix as the_mix};
 ghost use Rattle.bench.specs.Planning.{with_row, plan_told, Plans, PlanMade, model_of, cost_row, dark_row};
 
 use crate::mixing::{mix, mix_place};
@@ -38,7 +38,7 @@ fn mix_values<T: Tariff>(tariff: &T, before: u64, values: &[T::Amount]) -> u64
 }
 
 fn mix_policy(before: u64, policy: &[u16]) -> u64
-    ensures { result ≡ fold the-mix before policy.now }
+    ensures { result ≡ fold the_mix before policy.now }
 {
     let mut digest = before;
     for portfolio in policy {

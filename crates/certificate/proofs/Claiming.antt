@@ -7,18 +7,18 @@ use Rattle.interface.specs.Tariffs.{Scale, LawfulScale, AtMost}
 use Rattle.lookahead.specs.Best.{Pick, first_best, Chosen, FirstBest, cheaper, dearer, where_feasible}
 use Rattle.lookahead.specs.Gains.{gain}
 use Rattle.lookahead.proofs.Bounds.{EachFit}
-use Rattle.lookahead.proofs.Firsts.{first-best-law}
-use Rattle.lookahead.proofs.Leasts.{gain-fits, rows_fit, least-law}
+use Rattle.lookahead.proofs.Firsts.{first_best_law}
+use Rattle.lookahead.proofs.Leasts.{gain_fits, rows_fit, least_law}
 use Rattle.certificate.specs.Certificates.{named}
 use Rattle.certificate.specs.Recipes.{row_of, state_low, policy_gain, Lowest, Highest}
 
 -- what is there is of a feasible portfolio
 pub feasible_of : (m : Model) (F : ℕ → ℕ → Row) (s x : ℕ) (u : Row) → where_feasible m F s x ≡ Some u → (m.feasible s x ≡ true) × (u ≡ F s x)
-feasible_of m F s x u h = by-test (m.feasible s x) refl h
+feasible_of m F s x u h = by_test (m.feasible s x) refl h
   where
-    by-test : (b : Bool) → m.feasible s x ≡ b → cond b (Some (F s x)) None ≡ Some u → (m.feasible s x ≡ true) × (u ≡ F s x)
-    by-test true f e = (f, cc)
-    by-test false f e = let z : ◌≡◌ {A = ℕ} 0 1 = cc in absurd (omega arith)
+    by_test : (b : Bool) → m.feasible s x ≡ b → cond b (Some (F s x)) None ≡ Some u → (m.feasible s x ≡ true) × (u ≡ F s x)
+    by_test true f e = (f, cc)
+    by_test false f e = let z : ◌≡◌ {A = ℕ} 0 1 = cc in absurd (omega arith)
 
 pub there_of : (m : Model) (F : ℕ → ℕ → Row) (s x : ℕ) → m.feasible s x ≡ true → where_feasible m F s x ≡ Some (F s x)
 there_of m F s x h = ap (λ z. cond z (Some (F s x)) None) h
@@ -28,44 +28,44 @@ module _ (m : Model) (lawful : Lawful m) (t : Scale) (scaled : LawfulScale t) (v
   G = gain m t vs
 
   fits : (s x : ℕ) → m.feasible s x ≡ true → length (G s x) ≡ t.places
-  fits = gain-fits m lawful t scaled vs long fit
+  fits = gain_fits m lawful t scaled vs long fit
 
-  state-chosen : (s : ℕ) (u : Row) → state_low m t vs s ≡ Some u → (x : ℕ) × Chosen (cheaper t) (where_feasible m G s) m.portfolios (record { at = x; row = u })
-  state-chosen s u h = by-case (first_best (cheaper t) (where_feasible m G s) m.portfolios) h (least-law m t scaled G fits s m.portfolios)
+  state_chosen : (s : ℕ) (u : Row) → state_low m t vs s ≡ Some u → (x : ℕ) × Chosen (cheaper t) (where_feasible m G s) m.portfolios (record { at = x; row = u })
+  state_chosen s u h = by_case (first_best (cheaper t) (where_feasible m G s) m.portfolios) h (least_law m t scaled G fits s m.portfolios)
     where
-      by-case : (o : Option Pick) → row_of o ≡ Some u → FirstBest (cheaper t) (where_feasible m G s) m.portfolios o → (x : ℕ) × Chosen (cheaper t) (where_feasible m G s) m.portfolios (record { at = x; row = u })
-      by-case None e law = let z : ◌≡◌ {A = ℕ} 0 1 = cc in absurd (omega arith)
-      by-case (Some p) e law =
+      by_case : (o : Option Pick) → row_of o ≡ Some u → FirstBest (cheaper t) (where_feasible m G s) m.portfolios o → (x : ℕ) × Chosen (cheaper t) (where_feasible m G s) m.portfolios (record { at = x; row = u })
+      by_case None e law = let z : ◌≡◌ {A = ℕ} 0 1 = cc in absurd (omega arith)
+      by_case (Some p) e law =
           let same : p.row ≡ u = cc in
           (p.at, subst (λ w. Chosen (cheaper t) (where_feasible m G s) m.portfolios (record { at = p.at; row = w })) same law)
 
   state_there : (s x : ℕ) → m.feasible s x ≡ true → (v : Row) × (state_low m t vs s ≡ Some v) × AtMost t v (G s x)
-  state_there s x f = by-case (first_best (cheaper t) (where_feasible m G s) m.portfolios) refl (least-law m t scaled G fits s m.portfolios)
+  state_there s x f = by_case (first_best (cheaper t) (where_feasible m G s) m.portfolios) refl (least_law m t scaled G fits s m.portfolios)
     where
-      by-case : (o : Option Pick) → first_best (cheaper t) (where_feasible m G s) m.portfolios ≡ o → FirstBest (cheaper t) (where_feasible m G s) m.portfolios o
+      by_case : (o : Option Pick) → first_best (cheaper t) (where_feasible m G s) m.portfolios ≡ o → FirstBest (cheaper t) (where_feasible m G s) m.portfolios o
           → (v : Row) × (state_low m t vs s ≡ Some v) × AtMost t v (G s x)
-      by-case None e law =
+      by_case None e law =
           let none = law x (lawful.in_range s x f).1 in
           let some = there_of m G s x f in
           let z : ◌≡◌ {A = ℕ} 0 1 = cc in absurd (omega arith)
-      by-case (Some p) e law = (p.row, ap row_of e, law.best x (G s x) (lawful.in_range s x f).1 (there_of m G s x f))
+      by_case (Some p) e law = (p.row, ap row_of e, law.best x (G s x) (lawful.in_range s x f).1 (there_of m G s x f))
 
   low_fits : (s : ℕ) (u : Row) → state_low m t vs s ≡ Some u → length u ≡ t.places
-  low_fits s u h = let chosen = state-chosen s u h in rows_fit m t scaled G fits s chosen.0 u chosen.1.there
+  low_fits s u h = let chosen = state_chosen s u h in rows_fit m t scaled G fits s chosen.0 u chosen.1.there
 
-  pub lowest-law : (n : ℕ) → FirstBest (cheaper t) (state_low m t vs) n (first_best (cheaper t) (state_low m t vs) n)
-  lowest-law n = first-best-law (cheaper t) (λ u. length u ≡ t.places) scaled.total scaled.transitive (state_low m t vs) low_fits n
+  pub lowest_law : (n : ℕ) → FirstBest (cheaper t) (state_low m t vs) n (first_best (cheaper t) (state_low m t vs) n)
+  lowest_law n = first_best_law (cheaper t) (λ u. length u ≡ t.places) scaled.total scaled.transitive (state_low m t vs) low_fits n
 
-  pub lowest-some : FirstBest (cheaper t) (state_low m t vs) m.states None → ⊥
-  lowest-some h =
+  pub lowest_some : FirstBest (cheaper t) (state_low m t vs) m.states None → ⊥
+  lowest_some h =
       let x = lawful.way_out 0 lawful.some_states in
       let there = (state_there 0 x.0 x.1).1 in
       let none = h 0 lawful.some_states in
       let z : ◌≡◌ {A = ℕ} 0 1 = cc in omega arith
 
-  pub lowest-from : (s : ℕ) (u : Row) → Chosen (cheaper t) (state_low m t vs) m.states (record { at = s; row = u }) → Lowest m t vs u
-  lowest-from s u chosen =
-      let inner = state-chosen s u chosen.there in
+  pub lowest_from : (s : ℕ) (u : Row) → Chosen (cheaper t) (state_low m t vs) m.states (record { at = s; row = u }) → Lowest m t vs u
+  lowest_from s u chosen =
+      let inner = state_chosen s u chosen.there in
       let x = inner.0 in
       let of = feasible_of m G s x u inner.1.there in
       let fit-u = low_fits s u chosen.there in
@@ -90,18 +90,18 @@ module _ (m : Model) (lawful : Lawful m) (t : Scale) (scaled : LawfulScale t) (v
       }
 
   module _ (ps : List ℕ) (feasible : (s : ℕ) → s < m.states → m.feasible s (named ps s) ≡ true) where
-    pub highest-law : (n : ℕ) → FirstBest (dearer t) (policy_gain m t vs ps) n (first_best (dearer t) (policy_gain m t vs ps) n)
-    highest-law n = first-best-law (dearer t) (λ u. length u ≡ t.places) (λ u v p q. scaled.total v u q p) (λ u v w p q r a b. scaled.transitive w v u r q p b a)
+    pub highest_law : (n : ℕ) → FirstBest (dearer t) (policy_gain m t vs ps) n (first_best (dearer t) (policy_gain m t vs ps) n)
+    highest_law n = first_best_law (dearer t) (λ u. length u ≡ t.places) (λ u v p q. scaled.total v u q p) (λ u v w p q r a b. scaled.transitive w v u r q p b a)
         (policy_gain m t vs ps) (λ s u h. rows_fit m t scaled G fits s (named ps s) u h) n
 
-    pub highest-some : FirstBest (dearer t) (policy_gain m t vs ps) m.states None → ⊥
-    highest-some h =
+    pub highest_some : FirstBest (dearer t) (policy_gain m t vs ps) m.states None → ⊥
+    highest_some h =
         let some = there_of m G 0 (named ps 0) (feasible 0 lawful.some_states) in
         let none = h 0 lawful.some_states in
         let z : ◌≡◌ {A = ℕ} 0 1 = cc in omega arith
 
-    pub highest-from : (s : ℕ) (u : Row) → Chosen (dearer t) (policy_gain m t vs ps) m.states (record { at = s; row = u }) → Highest m t vs ps u
-    highest-from s u chosen = record {
+    pub highest_from : (s : ℕ) (u : Row) → Chosen (dearer t) (policy_gain m t vs ps) m.states (record { at = s; row = u }) → Highest m t vs ps u
+    highest_from s u chosen = record {
       state = s;
       inside = chosen.below;
       there = (feasible_of m G s (named ps s) u chosen.there).1;

@@ -8,7 +8,7 @@ use Rattle.interface.specs.Tariffs.{Scale, LawfulScale}
 use Rattle.lookahead.specs.Best.{first_best, FirstBest, cheaper, dearer}
 use Rattle.lookahead.specs.declared.best.Choice.{Choice}
 use Rattle.lookahead.specs.Choices.{pick}
-use Rattle.lookahead.proofs.Firsts.{first-best-law}
+use Rattle.lookahead.proofs.Firsts.{first_best_law}
 use Rattle.lookahead.proofs.Optional.{nth_there}
 
 rows_fit : {A : Type 0} (row : A → Row) (n : ℕ) → ((a : A) → length (row a) ≡ n) → (xs : List A) (k : ℕ) (u : Row) → slice_get (map row xs) k ≡ Some u → length u ≡ n
@@ -17,11 +17,11 @@ rows_fit row n f (x ∷ xs) zero u h = let e : row x ≡ u = cc in subst (λ w. 
 rows_fit row n f (x ∷ xs) (suc k) u h = rows_fit row n f xs k u h
 
 module _ {A : Type 0} (row : A → Row) (t : Scale) (scaled : LawfulScale t) (fits : (a : A) → length (row a) ≡ t.places) (xs : List A) where
-  least-law : (n : ℕ) → FirstBest (cheaper t) (slice_get (map row xs)) n (first_best (cheaper t) (slice_get (map row xs)) n)
-  least-law n = first-best-law (cheaper t) (λ u. length u ≡ t.places) scaled.total scaled.transitive (slice_get (map row xs)) (rows_fit row t.places fits xs) n
+  least_law : (n : ℕ) → FirstBest (cheaper t) (slice_get (map row xs)) n (first_best (cheaper t) (slice_get (map row xs)) n)
+  least_law n = first_best_law (cheaper t) (λ u. length u ≡ t.places) scaled.total scaled.transitive (slice_get (map row xs)) (rows_fit row t.places fits xs) n
 
-  greatest-law : (n : ℕ) → FirstBest (dearer t) (slice_get (map row xs)) n (first_best (dearer t) (slice_get (map row xs)) n)
-  greatest-law n = first-best-law (dearer t) (λ u. length u ≡ t.places) (λ u v p q. scaled.total v u q p) (λ u v w p q r a b. scaled.transitive w v u r q p b a)
+  greatest_law : (n : ℕ) → FirstBest (dearer t) (slice_get (map row xs)) n (first_best (dearer t) (slice_get (map row xs)) n)
+  greatest_law n = first_best_law (dearer t) (λ u. length u ≡ t.places) (λ u v p q. scaled.total v u q p) (λ u v w p q r a b. scaled.transitive w v u r q p b a)
       (slice_get (map row xs)) (rows_fit row t.places fits xs) n
 
 -- where there is a value there is a best one
@@ -29,8 +29,8 @@ pub found : {A : Type 0} (row : A → Row) (good : Row → Row → Bool) (xs : L
 found row good xs some h = nth_there (map row xs) 0 (simp length-map (omega arith)) (h 0 (omega arith))
 
 module _ {A : Type 0} (row : A → Row) (t : Scale) (scaled : LawfulScale t) (fits : (a : A) → length (row a) ≡ t.places) (xs : List A) where
-  pub greatest-choice : (o : Option (Choice A)) → option_map (pick row) o ≡ first_best (dearer t) (slice_get (map row xs)) (length xs) → FirstBest (dearer t) (slice_get (map row xs)) (length xs) (option_map (pick row) o)
-  greatest-choice o h = subst (FirstBest (dearer t) (slice_get (map row xs)) (length xs)) (sym h) (greatest-law row t scaled fits xs (length xs))
+  pub greatest_choice : (o : Option (Choice A)) → option_map (pick row) o ≡ first_best (dearer t) (slice_get (map row xs)) (length xs) → FirstBest (dearer t) (slice_get (map row xs)) (length xs) (option_map (pick row) o)
+  greatest_choice o h = subst (FirstBest (dearer t) (slice_get (map row xs)) (length xs)) (sym h) (greatest_law row t scaled fits xs (length xs))
 
-  pub least-choice : (o : Option (Choice A)) → option_map (pick row) o ≡ first_best (cheaper t) (slice_get (map row xs)) (length xs) → FirstBest (cheaper t) (slice_get (map row xs)) (length xs) (option_map (pick row) o)
-  least-choice o h = subst (FirstBest (cheaper t) (slice_get (map row xs)) (length xs)) (sym h) (least-law row t scaled fits xs (length xs))
+  pub least_choice : (o : Option (Choice A)) → option_map (pick row) o ≡ first_best (cheaper t) (slice_get (map row xs)) (length xs) → FirstBest (cheaper t) (slice_get (map row xs)) (length xs) (option_map (pick row) o)
+  least_choice o h = subst (FirstBest (cheaper t) (slice_get (map row xs)) (length xs)) (sym h) (least_law row t scaled fits xs (length xs))

@@ -13,21 +13,21 @@ or_none None y h = (refl, h)
 or_none (Some a) y h = let z : ◌≡◌ {A = ℕ} 0 1 = cc in absurd (omega arith)
 
 module _ {A : Type 0} (f : ℕ → Option A) where
-  pub fault-more : (n : ℕ) → first_fault f n ≡ None → f n ≡ None → first_fault f (n + 1) ≡ None
-  fault-more n h e = rw add-one (ap (λ z. or_else z (f n)) h ∙ e)
+  pub fault_more : (n : ℕ) → first_fault f n ≡ None → f n ≡ None → first_fault f (n + 1) ≡ None
+  fault_more n h e = rw add-one (ap (λ z. or_else z (f n)) h ∙ e)
 
-  pub fault-at : (n i : ℕ) (a : A) → i < n → first_fault f i ≡ None → f i ≡ Some a → first_fault f n ≡ Some a
-  fault-at zero i a l h e = absurd (omega arith)
-  fault-at (suc n) i a l h e = ⊎_elim
+  pub fault_at : (n i : ℕ) (a : A) → i < n → first_fault f i ≡ None → f i ≡ Some a → first_fault f n ≡ Some a
+  fault_at zero i a l h e = absurd (omega arith)
+  fault_at (suc n) i a l h e = ⊎_elim
       (λ same. ap (λ z. or_else z (f n)) (subst (λ k. first_fault f k ≡ None) same h) ∙ subst (λ k. f k ≡ Some a) same e)
-      (λ other. ap (λ z. or_else z (f n)) (fault-at n i a (omega arith) h e)) (cases_eq i n)
+      (λ other. ap (λ z. or_else z (f n)) (fault_at n i a (omega arith) h e)) (cases_eq i n)
 
-  pub fault-here : (n i : ℕ) → i < n → first_fault f i ≡ None → is_some (f i) ≡ true → first_fault f n ≡ f i
-  fault-here n i l h e = by-case (f i) refl e
+  pub fault_here : (n i : ℕ) → i < n → first_fault f i ≡ None → is_some (f i) ≡ true → first_fault f n ≡ f i
+  fault_here n i l h e = by_case (f i) refl e
     where
-      by-case : (o : Option A) → f i ≡ o → is_some o ≡ true → first_fault f n ≡ f i
-      by-case None q e = let z : ◌≡◌ {A = ℕ} 0 1 = cc in absurd (omega arith)
-      by-case (Some a) q e = fault-at n i a l h q ∙ sym q
+      by_case : (o : Option A) → f i ≡ o → is_some o ≡ true → first_fault f n ≡ f i
+      by_case None q e = let z : ◌≡◌ {A = ℕ} 0 1 = cc in absurd (omega arith)
+      by_case (Some a) q e = fault_at n i a l h q ∙ sym q
 
   pub none_below : (n k : ℕ) → first_fault f n ≡ None → k < n → f k ≡ None
   none_below zero k h l = absurd (omega arith)
@@ -54,11 +54,11 @@ module _ (p : ℕ → Bool) where
   each_from (suc n) h = and_from (each p n) (p n) (each_from n (λ k l. h k (omega arith))) (h n (omega arith))
 
   -- one that fails
-  pub each-not : (n k : ℕ) → k < n → p k ≡ false → each p n ≡ false
-  each-not zero k l h = absurd (omega arith)
-  each-not (suc n) k l h = ⊎_elim
+  pub each_not : (n k : ℕ) → k < n → p k ≡ false → each p n ≡ false
+  each_not zero k l h = absurd (omega arith)
+  each_not (suc n) k l h = ⊎_elim
       (λ same. and_right (each p n) (p n) (subst (λ j. p j ≡ false) same h))
-      (λ other. ap (λ z. z && p n) (each-not n k (omega arith) h)) (cases_eq k n)
+      (λ other. ap (λ z. z && p n) (each_not n k (omega arith) h)) (cases_eq k n)
 
 -- the value of a state is the row of its amount
 pub value_read : {A : Type 0} (row : A → Row) (t : Scale) (xs : List A) (s : ℕ) (x : A) → s < length xs → x ≡ get_or xs s x → value_of t (map row xs) s ≡ row x

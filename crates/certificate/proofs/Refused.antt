@@ -25,27 +25,27 @@ module _ {A : Type 0} (row : A → Row) (m : Model) (xs : List A) (ps : List ℕ
   pub policy_long : length ps ≡ m.states
   policy_long = eqb-true (length ps) m.states (and_parts (eqb (length xs) m.states) (eqb (length ps) m.states) same).1
 
-  pub within-from : (t : Scale) → first_fault (value_fault t (map row xs)) (length xs) ≡ None → Within m (map row xs)
-  within-from t h = record {
+  pub within_from : (t : Scale) → first_fault (value_fault t (map row xs)) (length xs) ≡ None → Within m (map row xs)
+  within_from t h = record {
     long = length-map xs row ∙ values_long;
     near = near_from t (map row xs) (subst (λ n. first_fault (value_fault t (map row xs)) n ≡ None) (sym (length-map xs row)) h);
   }
 
-  pub recipe-later : (t : Scale) → recipe_refusal m t (map row xs) ps ≡ or_else (first_fault (value_fault t (map row xs)) (length xs)) (first_fault (policy_fault m ps) (length ps))
-  recipe-later t =
+  pub recipe_later : (t : Scale) → recipe_refusal m t (map row xs) ps ≡ or_else (first_fault (value_fault t (map row xs)) (length xs)) (first_fault (policy_fault m ps) (length ps))
+  recipe_later t =
       cond-true (level m (map row xs) ps) _ _ (level_map row m xs ps ∙ same)
       ∙ ap (λ n. or_else (first_fault (value_fault t (map row xs)) n) (first_fault (policy_fault m ps) m.states)) (sym values_long)
       ∙ ap (λ n. or_else (first_fault (value_fault t (map row xs)) (length xs)) (first_fault (policy_fault m ps) n)) (sym policy_long)
 
   module _ (t : Scale) (low high : Row) where
-    pub refused-claim : (leb (reach low) most_claim && leb (reach high) most_claim) ≡ false → refusal m t (map row xs) ps low high ≡ Some (BeyondReach m.states)
-    refused-claim far =
+    pub refused_claim : (leb (reach low) most_claim && leb (reach high) most_claim) ≡ false → refusal m t (map row xs) ps low high ≡ Some (BeyondReach m.states)
+    refused_claim far =
         cond-true (level m (map row xs) ps) _ _ (level_map row m xs ps ∙ same)
         ∙ cond-false (leb (reach low) most_claim && leb (reach high) most_claim) _ _ far
 
-    pub refused-later : (leb (reach low) most_claim && leb (reach high) most_claim) ≡ true
+    pub refused_later : (leb (reach low) most_claim && leb (reach high) most_claim) ≡ true
         → refusal m t (map row xs) ps low high ≡ or_else (first_fault (value_fault t (map row xs)) (length xs)) (first_fault (state_fault m t (map row xs) ps low high) (length ps))
-    refused-later near =
+    refused_later near =
         cond-true (level m (map row xs) ps) _ _ (level_map row m xs ps ∙ same)
         ∙ cond-true (leb (reach low) most_claim && leb (reach high) most_claim) _ _ near
         ∙ ap (λ n. or_else (first_fault (value_fault t (map row xs)) n) (first_fault (state_fault m t (map row xs) ps low high) m.states)) (sym values_long)
@@ -63,14 +63,14 @@ fitting_from row m t xs ps none =
     let same = sym (level_map row m xs ps) ∙ one.0 in
     let two = or_none (first_fault (value_fault t (map row xs)) m.states) (first_fault (policy_fault m ps) m.states) one.1 in
     record {
-      within = within-from row m xs ps same t (subst (λ n. first_fault (value_fault t (map row xs)) n ≡ None) (sym (values_long row m xs ps same)) two.0);
+      within = within_from row m xs ps same t (subst (λ n. first_fault (value_fault t (map row xs)) n ≡ None) (sym (values_long row m xs ps same)) two.0);
       policy = policy_long row m xs ps same;
-      feasible = λ s l. by-test (m.feasible s (named ps s)) s (none_below (policy_fault m ps) m.states s two.1 l);
+      feasible = λ s l. by_test (m.feasible s (named ps s)) s (none_below (policy_fault m ps) m.states s two.1 l);
     }
   where
-    by-test : (b : Bool) (s : ℕ) → cond b None (Some (Infeasible s)) ≡ None → b ≡ true
-    by-test true s e = refl
-    by-test false s e = let z : ◌≡◌ {A = ℕ} 0 1 = cc in absurd (omega arith)
+    by_test : (b : Bool) (s : ℕ) → cond b None (Some (Infeasible s)) ≡ None → b ≡ true
+    by_test true s e = refl
+    by_test false s e = let z : ◌≡◌ {A = ℕ} 0 1 = cc in absurd (omega arith)
 
 pub fitting_to : {A : Type 0} (row : A → Row) (m : Model) (t : Scale) (xs : List A) (ps : List ℕ) → Fitting m (map row xs) ps → recipe_refusal m t (map row xs) ps ≡ None
 fitting_to row m t xs ps ready =

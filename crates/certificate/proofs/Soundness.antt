@@ -26,11 +26,11 @@ near_each n (v ∷ vs) h (suc s) l = near_each n vs h.1 s (omega arith)
 
 -- no value beyond reach
 pub near_from : (t : Scale) (vs : List Row) → first_fault (value_fault t vs) (length vs) ≡ None → Near vs
-near_from t vs h = near_from_each t.places vs (λ s l. leb-true (reach (value_of t vs s)) most_value (by-test (leb (reach (value_of t vs s)) most_value) s (none_below (value_fault t vs) (length vs) s h l)))
+near_from t vs h = near_from_each t.places vs (λ s l. leb-true (reach (value_of t vs s)) most_value (by_test (leb (reach (value_of t vs s)) most_value) s (none_below (value_fault t vs) (length vs) s h l)))
   where
-    by-test : (b : Bool) (s : ℕ) → cond b None (Some (BeyondReach s)) ≡ None → b ≡ true
-    by-test true s e = refl
-    by-test false s e = let z : ◌≡◌ {A = ℕ} 0 1 = cc in absurd (omega arith)
+    by_test : (b : Bool) (s : ℕ) → cond b None (Some (BeyondReach s)) ≡ None → b ≡ true
+    by_test true s e = refl
+    by_test false s e = let z : ◌≡◌ {A = ℕ} 0 1 = cc in absurd (omega arith)
 
 pub near_to : (t : Scale) (vs : List Row) → Near vs → first_fault (value_fault t vs) (length vs) ≡ None
 near_to t vs h = none_from (value_fault t vs) (length vs) (λ s l. ap (λ z. cond z None (Some (BeyondReach s))) (le-leb (reach (value_of t vs s)) most_value (near_each t.places vs h s l)))
@@ -44,8 +44,8 @@ low_to true a h = h refl
 low_to false a h = refl
 
 module _ (m : Model) (lawful : Lawful m) (t : Scale) (vs : List Row) (ps : List ℕ) (low high : Row) where
-  pub sound-from : refusal m t vs ps low high ≡ None → Sound m t vs ps low high
-  sound-from none =
+  pub sound_from : refusal m t vs ps low high ≡ None → Sound m t vs ps low high
+  sound_from none =
       let one = passed (level m vs ps) _ WrongLength none in
       let lengths = and_parts (eqb (length vs) m.states) (eqb (length ps) m.states) one.0 in
       let two = passed (leb (reach low) most_claim && leb (reach high) most_claim) _ (BeyondReach m.states) one.1 in
@@ -70,15 +70,15 @@ module _ (m : Model) (lawful : Lawful m) (t : Scale) (vs : List Row) (ps : List 
       parts h s l =
           let first = passed (m.feasible s (named ps s)) _ (Infeasible s) (none_below (state_fault m t vs ps low high) m.states s h l) in
           let second = passed (each (low_test m t vs low s) m.portfolios) _ (LowBroken s) first.1 in
-          let third = last-test (t.at_most (gain m t vs s (named ps s)) high) s second.1 in
+          let third = last_test (t.at_most (gain m t vs s (named ps s)) high) s second.1 in
           (first.0, second.0, third)
         where
-          last-test : (b : Bool) (s : ℕ) → cond b None (Some (HighBroken s)) ≡ None → b ≡ true
-          last-test true s e = refl
-          last-test false s e = let z : ◌≡◌ {A = ℕ} 0 1 = cc in absurd (omega arith)
+          last_test : (b : Bool) (s : ℕ) → cond b None (Some (HighBroken s)) ≡ None → b ≡ true
+          last_test true s e = refl
+          last_test false s e = let z : ◌≡◌ {A = ℕ} 0 1 = cc in absurd (omega arith)
 
-  pub sound-to : Sound m t vs ps low high → refusal m t vs ps low high ≡ None
-  sound-to sound =
+  pub sound_to : Sound m t vs ps low high → refusal m t vs ps low high ≡ None
+  sound_to sound =
       let tests : (s : ℕ) → s < m.states → state_fault m t vs ps low high s ≡ None = λ s l.
       let lows = each_from (low_test m t vs low s) m.portfolios (λ x _. low_to (m.feasible s x) (t.at_most low (gain m t vs s x)) (sound.low_holds s x)) in
       ap (λ z. cond z (cond (each (low_test m t vs low s) m.portfolios) (cond (t.at_most (gain m t vs s (named ps s)) high) None (Some (HighBroken s))) (Some (LowBroken s))) (Some (Infeasible s))) (sound.feasible s l)

@@ -1,6 +1,6 @@
 -- What the definitions of a chain come to.
 use Rattle.std.proofs.Common.{◌≡◌, ℕ, ◌+◌, ◌*◌, ◌/◌, ◌%◌, ◌<◌, ◌≤◌, true, false, List, Some, None, Option, sym, refl, ap, ◌∙◌, subst, inl, inr, arith}
-use Rattle.chain.specs.Feasibility.{feasible-decides, few_portfolios}
+use Rattle.chain.specs.Feasibility.{feasible_decides, few_portfolios}
 use Rattle.chain.specs.LawsLemmas.{lives_in_range}
 use Rattle.chain.specs.RoundTrips.{made_of}
 use Rattle.chain.specs.Starting.{starts_below}
@@ -13,7 +13,7 @@ use Rattle.chain.specs.States.{age_in, all_states, failed_in}
 use Rattle.chain.specs.declared.numbers.ChainNumbers.{ChainNumbers}
 use Rattle.std.proofs.lemmas.Nat.{pow_pos}
 use Rattle.std.proofs.lemmas.Bool.{cases_Bool, ne_eqb}
-use Rattle.workorder.proofs.WorkOrders.{order-none, table-only}
+use Rattle.workorder.proofs.WorkOrders.{order_none, table_only}
 use Rattle.workorder.proofs.Worked as worked
 use Rattle.workorder.specs.Figures.{circle, row}
 use Rattle.workorder.specs.Orders.{Least, LeastTable, portfolios}
@@ -46,7 +46,7 @@ module _ (n : ChainNumbers) (table : List (Option ℕ)) (l : LawfulNumbers n) (r
 
   pub chain_laws : ChainLaws n table
   chain_laws = record {
-    feasible = feasible-decides n table l.terms.0.1 right;
+    feasible = feasible_decides n table l.terms.0.1 right;
     unpaid = λ s. refl;
     paid = paid;
     known = λ s x i h some most. starts_below n s x l.terms (lives_in_range n l) h.worn i some most;
@@ -55,35 +55,35 @@ module _ (n : ChainNumbers) (table : List (Option ℕ)) (l : LawfulNumbers n) (r
   }
 
 module _ (n : ChainNumbers) (table : List (Option ℕ)) (right : LeastTable (arcs_of n) table) (e : LonePart n) where
-  one-window-old : age_in n 0 1 ≡ 1
-  one-window-old = ap (λ k. 0 / (k + 1) / 1 % life n 1 + 1) e.0 ∙ ap (λ m. 0 / 2 / 1 % m + 1) e.1
+  one_window_old : age_in n 0 1 ≡ 1
+  one_window_old = ap (λ k. 0 / (k + 1) / 1 % life n 1 + 1) e.0 ∙ ap (λ m. 0 / 2 / 1 % m + 1) e.1
 
-  hazards-then : hazard_sum n 0 0 ≡ 4000
-  hazards-then = ap (over_parts (λ i. hazard n i (start_age n 0 0 i))) e.0 ∙ omega (arith, ap (hazard n 1) one-window-old, e.3)
+  hazards_then : hazard_sum n 0 0 ≡ 4000
+  hazards_then = ap (over_parts (λ i. hazard n i (start_age n 0 0 i))) e.0 ∙ omega (arith, ap (hazard n 1) one_window_old, e.3)
 
-  may-skip : n.threshold ≡ 6000 → Feasible n 0 0
-  may-skip t = record {
+  may_skip : n.threshold ≡ 6000 → Feasible n 0 0
+  may_skip t = record {
     state = let all : all_states n ≡ 4 = ap (λ k. (k + 1) * product (life n) k) e.0 ∙ ap (λ m. 2 * (1 * m)) e.1 in omega arith;
     portfolio = pow_pos n.count;
     failure = λ some. let none : failed_in n 0 ≡ 0 = ap (λ k. 0 % (k + 1)) e.0 in absurd (omega arith);
-    worn = λ i some most old. let only : i ≡ 1 = omega (arith, e.0) in absurd (omega (arith, ap (age_in n 0) only, ap (life n) only, one-window-old, e.1));
-    order = ∣ (0, order-none (arcs_of n)) ∣₁;
-    survives = omega (arith, hazards-then);
+    worn = λ i some most old. let only : i ≡ 1 = omega (arith, e.0) in absurd (omega (arith, ap (age_in n 0) only, ap (life n) only, one_window_old, e.1));
+    order = ∣ (0, order_none (arcs_of n)) ∣₁;
+    survives = omega (arith, hazards_then);
   }
 
   skips : (n.threshold ≡ 6000 → chain_feasible n table 0 0 ≡ true) × (n.threshold ≡ 6001 → chain_feasible n table 0 0 ≡ false)
   skips =
       let few : n.count ≤ 6 = omega (arith, e.0) in
-      let means = feasible-decides n table few right 0 0 in (
-        λ t. means.1 (may-skip t),
-        λ t. elim (cases_Bool (chain_feasible n table 0 0)) [ inl h ↦ absurd (omega (arith, (means.0 h).survives, hazards-then)) | inr h ↦ h ],
+      let means = feasible_decides n table few right 0 0 in (
+        λ t. means.1 (may_skip t),
+        λ t. elim (cases_Bool (chain_feasible n table 0 0)) [ inl h ↦ absurd (omega (arith, (means.0 h).survives, hazards_then)) | inr h ↦ h ],
       )
 
 -- the cents, where the least work order of the arcs is known
 bill_is : (n : ChainNumbers) (table : List (Option ℕ)) (arcs : List Arc) (s x f setup c : ℕ) → With n table arcs setup → Least arcs x (Some c) → x < portfolios → 1 ≤ x → failed_in n s ≡ f → (chain_bill n table s x).cents ≡ setup + c + failure_charge n f
 bill_is n table arcs s x f setup c w least inside some is =
     let mine : Least (arcs_of n) x (Some c) = subst (λ (ways : List Arc). Least ways x (Some c)) (sym w.0) least in
-    let order = table-only (arcs_of n) table w.1 x (Some c) inside mine in
+    let order = table_only (arcs_of n) table w.1 x (Some c) inside mine in
     renewal_paid n table x (failed_in n s) c some (sym order) ∙ ap (λ k. k + c + failure_charge n (failed_in n s)) w.2 ∙ ap (λ k. setup + c + failure_charge n k) is
 
 pub figures : Figures

@@ -53,8 +53,8 @@ module _ (n : ChainNumbers) (terms : LawfulTerms n) (lives : LivesInRange n) (s 
   pub width_fits : (k rest width total hazards : ℕ) → SoFar n s x k rest width total hazards → k ≤ n.count → width ≤ most_life ^ max_parts
   width_fits k rest width total hazards so inside = omega (arith, so.wide, lives_few n k terms lives inside)
 
-  pub total-fits : (k rest width total hazards : ℕ) → SoFar n s x k rest width total hazards → k ≤ n.count → total < most_life ^ max_parts
-  total-fits k rest width total hazards so inside = omega (arith, so.older, number_few n (start_age n s x) k terms lives (below k inside so.renewed) inside)
+  pub total_fits : (k rest width total hazards : ℕ) → SoFar n s x k rest width total hazards → k ≤ n.count → total < most_life ^ max_parts
+  total_fits k rest width total hazards so inside = omega (arith, so.older, number_few n (start_age n s x) k terms lives (below k inside so.renewed) inside)
 
   pub number_fits : (rest width total hazards : ℕ) → SoFar n s x n.count rest width total hazards → (n.count + 1) * total < (max_parts + 1) * most_life ^ max_parts
   number_fits rest width total hazards so =

@@ -52,18 +52,18 @@ module _ (n : ChainNumbers) (start : ℕ → ℕ) where
       let front : weights (map (outcome_after n start) (range_with_len 0 (n.count + 1))) ≡ (whole - hazards_at n start) + weights (map (outcome_after n start) (range_with_len 1 n.count)) = ap (λ z. weights (map (outcome_after n start) (range_with_len 0 z))) (add-one n.count) in
       omega (arith, front, weights_over (outcome_after n start) n.count, failures)
 
-  older-below : BelowLives n start → BelowLives n (λ i. start i + 1 - 1)
-  older-below below i some most = omega (arith, below i some most)
+  older_below : BelowLives n start → BelowLives n (λ i. start i + 1 - 1)
+  older_below below i some most = omega (arith, below i some most)
 
-  pub next-inside : (k : ℕ) → BelowLives n start → k ≤ n.count → (outcome_after n start k).next < all_states n
-  next-inside k below inside = state_inside n (λ i. start i + 1 - 1) k (older-below below) inside
+  pub next_inside : (k : ℕ) → BelowLives n start → k ≤ n.count → (outcome_after n start k).next < all_states n
+  next_inside k below inside = state_inside n (λ i. start i + 1 - 1) k (older_below below) inside
 
-  pub outcomes-inside : BelowLives n start → Inside (all_states n) (map (outcome_after n start) (range_with_len 0 (n.count + 1)))
-  outcomes-inside below = inside_counting (outcome_after n start) 0 (n.count + 1) (all_states n) (λ k _ less. next-inside k below (omega arith))
+  pub outcomes_inside : BelowLives n start → Inside (all_states n) (map (outcome_after n start) (range_with_len 0 (n.count + 1)))
+  outcomes_inside below = inside_counting (outcome_after n start) 0 (n.count + 1) (all_states n) (λ k _ less. next_inside k below (omega arith))
 
   -- a table of the start ages gives the same outcomes
-  pub outcome-alike : (xs : List ℕ) (k : ℕ) → Entries start n.count xs → k ≤ n.count → outcome_after n (entry xs) k ≡ outcome_after n start k
-  outcome-alike xs k entries most = λ i. record { next = next i; weight = weight i }
+  pub outcome_alike : (xs : List ℕ) (k : ℕ) → Entries start n.count xs → k ≤ n.count → outcome_after n (entry xs) k ≡ outcome_after n start k
+  outcome_alike xs k entries most = λ i. record { next = next i; weight = weight i }
     where
       next : state_with n (λ i. entry xs i + 1) k ≡ state_with n (λ i. start i + 1) k
       next = ap (λ z. (n.count + 1) * z + k) (over_alike _ _ n.count (λ i some l. ap (λ z. (z + 1 - 1) * product (life n) (i - 1)) (entries i some l)))
@@ -80,11 +80,11 @@ module _ (n : ChainNumbers) (start : ℕ → ℕ) where
 
 module _ (n : ChainNumbers) (s x k : ℕ) (w : Window) (is : ComesTo n s x k w) where
   -- what the window comes to is what its outcomes are made of
-  pub next-at : w.next + k ≡ (outcome_after n (start_age n s x) k).next
-  next-at = omega (arith, is.unfailed)
+  pub next_at : w.next + k ≡ (outcome_after n (start_age n s x) k).next
+  next_at = omega (arith, is.unfailed)
 
-  pub weight-at : (weight : ℕ) → k ≤ n.count → (k ≡ 0 → weight ≡ whole - w.hazards) → (1 ≤ k → weight ≡ w.hazard) → weight ≡ (outcome_after n (start_age n s x) k).weight
-  weight-at weight inside none some =
+  pub weight_at : (weight : ℕ) → k ≤ n.count → (k ≡ 0 → weight ≡ whole - w.hazards) → (1 ≤ k → weight ≡ w.hazard) → weight ≡ (outcome_after n (start_age n s x) k).weight
+  weight_at weight inside none some =
       elim (cases_eq k 0) [
         | inl z ↦ rw (eq-eqb k 0 z) (none z ∙ ap (λ h. whole - h) is.all)
         | inr z ↦ rw (ne_eqb k 0 z) (some (omega arith) ∙ is.one (omega arith) inside)
@@ -115,6 +115,6 @@ outcome_listed n table s x k xs r test entries is = rw test (is ∙ same ∙ sym
     same : cond (nat_lt k (n.count + 1)) (Some (outcome_after n (entry xs) k)) None ≡ cond (nat_lt k (n.count + 1)) (Some (outcome_after n (start_age n s x) k)) None
     same =
         elim (cases_lt k (n.count + 1)) [
-          | inl h ↦ rw (lt-ltb k (n.count + 1) h) (ap Some (outcome-alike n (start_age n s x) xs k entries (omega arith)))
+          | inl h ↦ rw (lt-ltb k (n.count + 1) h) (ap Some (outcome_alike n (start_age n s x) xs k entries (omega arith)))
           | inr h ↦ rw (le-ltb k (n.count + 1) h)
         ]

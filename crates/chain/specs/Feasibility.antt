@@ -30,8 +30,8 @@ pub few_portfolios : (n : ChainNumbers) → n.count ≤ max_parts → all_portfo
 few_portfolios n few = pow_mono few
 
 module _ (n : ChainNumbers) (table : List (Option ℕ)) (few : n.count ≤ max_parts) (right : LeastTable (arcs_of n) table) where
-  pub feasible-decides : (s x : ℕ) → Decides (chain_feasible n table s x) (Feasible n s x)
-  feasible-decides s x = (there, back)
+  pub feasible_decides : (s x : ℕ) → Decides (chain_feasible n table s x) (Feasible n s x)
+  feasible_decides s x = (there, back)
     where
       there : chain_feasible n table s x ≡ true → Feasible n s x
       there t =
@@ -56,58 +56,58 @@ module _ (n : ChainNumbers) (table : List (Option ℕ)) (few : n.count ≤ max_p
           (and_from _ _ (and_from _ _ ((failure_decides n s x).1 h.failure) ((worn_decides n s x).1 h.worn))
           (and_from _ _ ((order_decides n x (least_order table x) (right.least x (omega (arith, few_portfolios n few, h.portfolio)))).1 h.order) ((survives_decides n (hazard_sum n s x)).1 h.survives)))
 
-  pub renewable-by : Renewable n → RenewableBy n table
-  renewable-by all s inside = (feasible-decides s (everything n)).1 (all s inside)
+  pub renewable_by : Renewable n → RenewableBy n table
+  renewable_by all s inside = (feasible_decides s (everything n)).1 (all s inside)
 
-  everything-inside : everything n < all_portfolios n
-  everything-inside = omega (arith, pow_pos n.count)
+  everything_inside : everything n < all_portfolios n
+  everything_inside = omega (arith, pow_pos n.count)
 
   -- when all parts are renewed, every part is new
-  new-hazards : (s : ℕ) → hazard_sum n s (everything n) ≡ hazards_at n (λ _. 0)
-  new-hazards s = over_alike _ _ n.count (λ i some most. ap (hazard n i) (cond-true _ 0 (age_in n s i) (everything_renews n i some most)))
+  new_hazards : (s : ℕ) → hazard_sum n s (everything n) ≡ hazards_at n (λ _. 0)
+  new_hazards s = over_alike _ _ n.count (λ i some most. ap (hazard n i) (cond-true _ 0 (age_in n s i) (everything_renews n i some most)))
 
   -- whether all parts may be renewed, in every state or in none
-  pub renewable-when : (b : Bool) → b ≡ (is_some (least_order table (everything n)) && survives n (hazards_at n (λ _. 0))) → MatchBool b (Renewable n) (Unrenewable n)
-  renewable-when true e = all
+  pub renewable_when : (b : Bool) → b ≡ (is_some (least_order table (everything n)) && survives n (hazards_at n (λ _. 0))) → MatchBool b (Renewable n) (Unrenewable n)
+  renewable_when true e = all
     where
       all : Renewable n
       all s inside =
           let both = and_parts (is_some (least_order table (everything n))) _ (sym e) in
           record {
             state = inside;
-            portfolio = everything-inside;
+            portfolio = everything_inside;
             failure = λ some. everything_holds n (failed_in n s) some (omega (arith, mod_below s (n.count + 1) (omega arith)));
             worn = λ i some most _. everything_holds n i some most;
-            order = (order_decides n (everything n) (least_order table (everything n)) (right.least (everything n) (omega (arith, everything-inside, few_portfolios n few)))).0 both.0;
-            survives = let l = (survives_decides n (hazards_at n (λ _. 0))).0 both.1 in omega (arith, new-hazards s);
+            order = (order_decides n (everything n) (least_order table (everything n)) (right.least (everything n) (omega (arith, everything_inside, few_portfolios n few)))).0 both.0;
+            survives = let l = (survives_decides n (hazards_at n (λ _. 0))).0 both.1 in omega (arith, new_hazards s);
           }
-  renewable-when false e = none
+  renewable_when false e = none
     where
       none : Unrenewable n
       none s h =
-          let order = (order_decides n (everything n) (least_order table (everything n)) (right.least (everything n) (omega (arith, everything-inside, few_portfolios n few)))).1 h.order in
-          let lasts = (survives_decides n (hazards_at n (λ _. 0))).1 (omega (arith, h.survives, new-hazards s)) in
+          let order = (order_decides n (everything n) (least_order table (everything n)) (right.least (everything n) (omega (arith, everything_inside, few_portfolios n few)))).1 h.order in
+          let lasts = (survives_decides n (hazards_at n (λ _. 0))).1 (omega (arith, h.survives, new_hazards s)) in
           let both = and_from (is_some (least_order table (everything n))) _ order lasts in
           let z : ◌≡◌ {A = ℕ} 0 1 = cc in
           omega arith
 
   -- the same from two tests, where the hazards are those of all parts when they are new
-  pub renewable-when_new : (x h : ℕ) (order lasts : Bool) → x ≡ all_portfolios n → order ≡ is_some (least_order table (x - 1)) → h ≡ hazards_at n (λ _. 0) → lasts ≡ survives n h
+  pub renewable_when_new : (x h : ℕ) (order lasts : Bool) → x ≡ all_portfolios n → order ≡ is_some (least_order table (x - 1)) → h ≡ hazards_at n (λ _. 0) → lasts ≡ survives n h
       → (order ≡ true → MatchBool lasts (Renewable n) (Unrenewable n)) × (order ≡ false → MatchBool order (Renewable n) (Unrenewable n))
-  renewable-when_new x h order lasts all is sum meets =
+  renewable_when_new x h order lasts all is sum meets =
       let there : is_some (least_order table (everything n)) ≡ order = ap (λ z. is_some (least_order table (z - 1))) (sym all) ∙ sym is in
       let same : survives n (hazards_at n (λ _. 0)) ≡ lasts = ap (survives n) (sym sum) ∙ sym meets in (
-        λ t. renewable-when lasts (rw (there, t) (sym same)),
-        λ t. renewable-when order (rw (there, t)),
+        λ t. renewable_when lasts (rw (there, t) (sym same)),
+        λ t. renewable_when order (rw (there, t)),
       )
 
   -- the same where they are those of a table of zeros
-  pub renewable-tests : (x h : ℕ) (order lasts : Bool) → x ≡ all_portfolios n → order ≡ is_some (least_order table (x - 1)) → h ≡ hazards_at n (entry (replicate max_parts 0)) → lasts ≡ survives n h
+  pub renewable_tests : (x h : ℕ) (order lasts : Bool) → x ≡ all_portfolios n → order ≡ is_some (least_order table (x - 1)) → h ≡ hazards_at n (entry (replicate max_parts 0)) → lasts ≡ survives n h
       → (order ≡ true → MatchBool lasts (Renewable n) (Unrenewable n)) × (order ≡ false → MatchBool order (Renewable n) (Unrenewable n))
-  renewable-tests x h order lasts all is sum meets =
+  renewable_tests x h order lasts all is sum meets =
       let there : is_some (least_order table (everything n)) ≡ order = ap (λ z. is_some (least_order table (z - 1))) (sym all) ∙ sym is in
       let new : h ≡ hazards_at n (λ _. 0) = sum ∙ over_alike _ _ n.count (λ i some most. ap (hazard n i) (get_or-replicate max_parts (i - 1) 0 0 (omega arith))) in
       let same : survives n (hazards_at n (λ _. 0)) ≡ lasts = ap (survives n) (sym new) ∙ sym meets in (
-        λ t. renewable-when lasts (rw (there, t) (sym same)),
-        λ t. renewable-when order (rw (there, t)),
+        λ t. renewable_when lasts (rw (there, t) (sym same)),
+        λ t. renewable_when order (rw (there, t)),
       )

@@ -1,7 +1,7 @@
 -- A chain keeps the laws of a plant.
 use Rattle.std.specs.Prelude.{◌≡◌, ℕ, ◌+◌, ◌*◌, ◌<◌, ◌≤◌, Bool, true, false, cond, List, Some, None, Option, ◌==◌}
-use Rattle.chain.specs.Feasibility.{feasible-decides, few_portfolios}
-use Rattle.chain.specs.Endings.{outcomes-inside, weights_whole}
+use Rattle.chain.specs.Feasibility.{feasible_decides, few_portfolios}
+use Rattle.chain.specs.Endings.{outcomes_inside, weights_whole}
 use Rattle.chain.specs.Starting.{starts_below}
 use Rattle.chain.specs.Sums.{product_positive}
 use Rattle.chain.specs.Chains.{Feasible, Renewable, RenewableBy, chain_bill, chain_feasible, chain_model, chain_outcomes, dark_seconds, failure_charge, least_order, outcome_after}
@@ -17,7 +17,7 @@ use Rattle.std.proofs.lemmas.Nat.{mod_below, mul-le, pow_pos}
 use Rattle.std.proofs.lemmas.List.FromFn.{length-map-range_with_len}
 use Rattle.std.proofs.lemmas.Bool.{cases_eq, eq-eqb, ne_eqb}
 use Rattle.std.specs.Option.{unwrap_or}
-use Rattle.workorder.proofs.WorkOrders.{table-bounded}
+use Rattle.workorder.proofs.WorkOrders.{table_bounded}
 use Rattle.workorder.specs.Orders.{AtMost, LeastTable, NoneDearer, max_parts, portfolios}
 use Rattle.std.proofs.Common.{inl, inr, arith}
 
@@ -34,7 +34,7 @@ value_few (Some c) m l = l
 
 -- the least work order of a portfolio is bounded by the dearest arcs
 pub order_few : (n : ChainNumbers) (table : List (Option ℕ)) (x : ℕ) → NoneDearer most_charge (arcs_of n) → LeastTable (arcs_of n) table → x < portfolios → unwrap_or (least_order table x) 0 ≤ max_parts * most_charge
-order_few n table x dear right inside = value_few (least_order table x) (max_parts * most_charge) (table-bounded (arcs_of n) table right x most_charge inside dear)
+order_few n table x dear right inside = value_few (least_order table x) (max_parts * most_charge) (table_bounded (arcs_of n) table right x most_charge inside dear)
 
 one_of : (b : Bool) (x y m : ℕ) → x ≤ m → y ≤ m → cond b x y ≤ m
 one_of true x y m p q = p
@@ -73,13 +73,13 @@ module _ (n : ChainNumbers) (table : List (Option ℕ)) (l : LawfulNumbers n) (r
       record {
         some = omega (arith, long);
         few = omega (arith, long, l.terms.0.1);
-        inside = outcomes-inside n (start_age n s x) (starts_below n s x l.terms (lives_in_range n l) h.worn);
+        inside = outcomes_inside n (start_age n s x) (starts_below n s x l.terms (lives_in_range n l) h.worn);
         shared = weights_whole n (start_age n s x) (omega (arith, h.survives));
       }
 
-  pub chain-lawful : all_states n ≤ most_states → Renewable n → Lawful (chain_model n table)
-  chain-lawful few renewable =
-      let means = feasible-decides n table l.terms.0.1 right in
+  pub chain_lawful : all_states n ≤ most_states → Renewable n → Lawful (chain_model n table)
+  chain_lawful few renewable =
+      let means = feasible_decides n table l.terms.0.1 right in
       let lives = product_positive (life n) n.count (λ i some most. (lives_in_range n l i some most).0) in
       record {
         some_states = mul-le 1 1 (n.count + 1) (product (life n) n.count) (omega arith) lives;
@@ -93,8 +93,8 @@ module _ (n : ChainNumbers) (table : List (Option ℕ)) (l : LawfulNumbers n) (r
       }
 
   -- what the test of feasibility gives to the code
-  pub feasible-facts : (s x : ℕ) → chain_feasible n table s x ≡ true → Feasible n s x
-  feasible-facts s x = (feasible-decides n table l.terms.0.1 right s x).0
+  pub feasible_facts : (s x : ℕ) → chain_feasible n table s x ≡ true → Feasible n s x
+  feasible_facts s x = (feasible_decides n table l.terms.0.1 right s x).0
 
-  pub renewable-from : RenewableBy n table → Renewable n
-  renewable-from all s inside = feasible-facts s (everything n) (all s inside)
+  pub renewable_from : RenewableBy n table → Renewable n
+  renewable_from all s inside = feasible_facts s (everything n) (all s inside)

@@ -1,6 +1,6 @@
 -- The numbers of states.
 use Rattle.std.specs.Prelude.{◌≡◌, ℕ, ◌+◌, ◌-◌, ◌*◌, ◌/◌, ◌%◌, ◌^◌, ◌<◌, ◌≤◌, cond, List, length, nat_lt, slice_index}
-use Rattle.chain.specs.Radix.{number, number-below, number_step}
+use Rattle.chain.specs.Radix.{number, number_below, number_step}
 use Rattle.chain.specs.Sums.{product_at_most, product_more}
 use Rattle.std.proofs.lemmas.Nat.{mul-le, mul-add-lt}
 use Rattle.std.proofs.lemmas.List.FromFn.{fill_by_all, get_or-map-range_with_len}
@@ -39,7 +39,7 @@ BelowLives n d = (i : ℕ) → 1 ≤ i → i ≤ n.count → d i < life n i
 
 pub number_few : (n : ChainNumbers) (d : ℕ → ℕ) (k : ℕ) → LawfulTerms n → LivesInRange n → ((i : ℕ) → 1 ≤ i → i ≤ k → d i < life n i) → k ≤ n.count → number (life n) d k < most_life ^ max_parts
 number_few n d k terms lives below inside =
-    let within = number-below (life n) d k below in
+    let within = number_below (life n) d k below in
     omega (arith, lives_few n k terms lives inside)
 
 -- the digit of one part more, as a loop adds it
@@ -51,7 +51,7 @@ number_more n xs k t w wide so_far =
 -- a number by the digits of the parts and a failed part is a state
 pub state_inside : (n : ChainNumbers) (d : ℕ → ℕ) (f : ℕ) → BelowLives n d → f ≤ n.count → (n.count + 1) * number (life n) d n.count + f < all_states n
 state_inside n d f below inside =
-    omega (arith, mul-add-lt (number (life n) d n.count) (n.count + 1) f (product (life n) n.count) (number-below (life n) d n.count below) (omega arith))
+    omega (arith, mul-add-lt (number (life n) d n.count) (n.count + 1) f (product (life n) n.count) (number_below (life n) d n.count below) (omega arith))
 
 -- the age of one part, as a loop takes it from the rest
 pub age_step : (n : ChainNumbers) (s k r l : ℕ) → r ≡ s / (n.count + 1) / product (life n) k → l ≡ life n (k + 1) → r % l + 1 ≡ age_in n s (k + 1)

@@ -44,47 +44,47 @@ module _ (base : ℕ → ℕ) where
   number_more : (d : ℕ → ℕ) (k : ℕ) → number d (suc k) ≡ d (k + 1) * product base k + number d k
   number_more d k = let less : k + 1 - 1 ≡ k = omega arith in rw less (omega arith)
 
-  pub number-below : (d : ℕ → ℕ) (k : ℕ) → ((i : ℕ) → 1 ≤ i → i ≤ k → d i < base i) → number d k < product base k
-  number-below d zero below = omega arith
-  number-below d (suc k) below =
-      let before = number-below d k (λ i some most. below i some (omega arith)) in
+  pub number_below : (d : ℕ → ℕ) (k : ℕ) → ((i : ℕ) → 1 ≤ i → i ≤ k → d i < base i) → number d k < product base k
+  number_below d zero below = omega arith
+  number_below d (suc k) below =
+      let before = number_below d k (λ i some most. below i some (omega arith)) in
       let more = mul-add-lt (d (k + 1)) (product base k) (number d k) (base (k + 1)) (below (k + 1) (omega arith) (omega arith)) before in
       omega (arith, more, number_more d k)
 
   -- a place and its base divide what the places above count
-  product-splits : (k i : ℕ) → 1 ≤ i → i ≤ k → (m : ℕ) × (product base k ≡ product base (i - 1) * base i * m)
-  product-splits zero i some most = absurd (omega arith)
-  product-splits (suc k) i some most =
+  product_splits : (k i : ℕ) → 1 ≤ i → i ≤ k → (m : ℕ) × (product base k ≡ product base (i - 1) * base i * m)
+  product_splits zero i some most = absurd (omega arith)
+  product_splits (suc k) i some most =
       elim (cases_lt i (suc k)) [
-        | inl below ↦ (let r = product-splits k i some (omega arith) in (r.0 * base (k + 1), ap (λ z. z * base (k + 1)) r.1 ∙ mul_assoc (product base (i - 1) * base i) r.0 (base (k + 1))))
+        | inl below ↦ (let r = product_splits k i some (omega arith) in (r.0 * base (k + 1), ap (λ z. z * base (k + 1)) r.1 ∙ mul_assoc (product base (i - 1) * base i) r.0 (base (k + 1))))
         | inr last ↦ (let here : i ≡ k + 1 = omega arith in let less : i - 1 ≡ k = omega arith in (1, rw (less, here) (omega arith)))
       ]
 
   -- the digits of a number made of digits
-  pub digit-of-number : (d : ℕ → ℕ) (k i : ℕ) → ((j : ℕ) → 1 ≤ j → j ≤ k → d j < base j) → 1 ≤ i → i ≤ k → digit (number d k) i ≡ d i
-  digit-of-number d zero i below some most = absurd (omega arith)
-  digit-of-number d (suc k) i below some most =
+  pub digit_of_number : (d : ℕ → ℕ) (k i : ℕ) → ((j : ℕ) → 1 ≤ j → j ≤ k → d j < base j) → 1 ≤ i → i ≤ k → digit (number d k) i ≡ d i
+  digit_of_number d zero i below some most = absurd (omega arith)
+  digit_of_number d (suc k) i below some most =
       let lower : (j : ℕ) → 1 ≤ j → j ≤ k → d j < base j = λ j one many. below j one (omega arith) in
       elim (cases_lt i (suc k)) [
         | inl h ↦ (
-            let r = product-splits k i some (omega arith) in
+            let r = product_splits k i some (omega arith) in
             let w = product base (i - 1) in
             let positive : 0 < w = product_positive base (i - 1) (λ j one many. let b = below j one (omega arith) in omega arith) in
             let is : number d (suc k) ≡ d (k + 1) * (w * base i * r.0) + number d k = number_more d k ∙ ap (λ z. d (k + 1) * z + number d k) r.1 in
-            ap (λ z. digit z i) is ∙ lower_digit (d (k + 1)) w (base i) r.0 (number d k) positive ∙ digit-of-number d k i lower some (omega arith))
+            ap (λ z. digit z i) is ∙ lower_digit (d (k + 1)) w (base i) r.0 (number d k) positive ∙ digit_of_number d k i lower some (omega arith))
         | inr h ↦ (
             let here : i ≡ k + 1 = omega arith in
             let less : i - 1 ≡ k = omega arith in
-            let top : number d (suc k) / product base k ≡ d (k + 1) = ap (λ z. z / product base k) (number_more d k) ∙ div-mul-add (d (k + 1)) (product base k) (number d k) (number-below d k lower) in
+            let top : number d (suc k) / product base k ≡ d (k + 1) = ap (λ z. z / product base k) (number_more d k) ∙ div-mul-add (d (k + 1)) (product base k) (number d k) (number_below d k lower) in
             let fits : d (k + 1) < base (k + 1) = below (k + 1) (omega arith) (omega arith) in
             ap (λ z. number d (suc k) / product base z % base i) less ∙ ap (λ z. z % base i) top ∙ ap (λ z. d (k + 1) % base z) here ∙ mod-eq_of_lt fits ∙ ap d (sym here))
       ]
 
   -- the number made of a number's digits
-  pub number-of-digits : (t k : ℕ) → ((i : ℕ) → 1 ≤ i → i ≤ k → 1 ≤ base i) → number (digit t) k ≡ t % product base k
-  number-of-digits t zero some = omega arith
-  number-of-digits t (suc k) some =
-      let before = number-of-digits t k (λ i one many. some i one (omega arith)) in
+  pub number_of_digits : (t k : ℕ) → ((i : ℕ) → 1 ≤ i → i ≤ k → 1 ≤ base i) → number (digit t) k ≡ t % product base k
+  number_of_digits t zero some = omega arith
+  number_of_digits t (suc k) some =
+      let before = number_of_digits t k (λ i one many. some i one (omega arith)) in
       let positive = product_positive base k (λ i one many. some i one (omega arith)) in
       let less : k + 1 - 1 ≡ k = omega arith in
       let top : digit t (k + 1) ≡ t / product base k % base (k + 1) = ap (λ z. t / product base z % base (k + 1)) less in

@@ -1,7 +1,7 @@
 -- States and their numbers turn into each other without loss.
 use Rattle.std.specs.Prelude.{◌≡◌, ℕ, ◌+◌, ◌-◌, ◌*◌, ◌/◌, ◌%◌, ◌<◌, ◌≤◌, Bool, true, false, cond, ◌&&◌, List, Some, None, Decides, nat_le, nat_lt, refl}
 use Rattle.chain.specs.Numbering.{entry_of_table, state_inside}
-use Rattle.chain.specs.Radix.{digit, number, digit-of-number, number-of-digits}
+use Rattle.chain.specs.Radix.{digit, number, digit_of_number, number_of_digits}
 use Rattle.chain.specs.Sums.{every_decides, over_alike}
 use Rattle.chain.specs.Over.{Entries, entry, every, product}
 use Rattle.chain.specs.Parts.{LivesInRange, LawfulTerms, life}
@@ -26,8 +26,8 @@ some_only false x y e = let z : ◌≡◌ {A = ℕ} 0 1 = cc in absurd (omega ar
 
 module _ (n : ChainNumbers) (terms : LawfulTerms n) (lives : LivesInRange n) where
   -- the ages of any state are from 1 to the lives
-  pub age-within : (s i : ℕ) → 1 ≤ i → i ≤ n.count → (1 ≤ age_in n s i) × (age_in n s i ≤ life n i)
-  age-within s i some most =
+  pub age_within : (s i : ℕ) → 1 ≤ i → i ≤ n.count → (1 ≤ age_in n s i) × (age_in n s i ≤ life n i)
+  age_within s i some most =
       let least : 0 < life n i = (lives i some most).0 in
       let below = mod_below (s / (n.count + 1) / product (life n) (i - 1)) (life n i) least in
       (omega arith, omega arith)
@@ -50,7 +50,7 @@ module _ (n : ChainNumbers) (terms : LawfulTerms n) (lives : LivesInRange n) whe
         lower t f inside,
         λ i some most.
             let a = aged i some most in
-            let one = digit-of-number (life n) d n.count i below some most in
+            let one = digit_of_number (life n) d n.count i below some most in
             let whole : age_in n (state_with n age f) i ≡ digit (life n) t i + 1 = ap (λ z. digit (life n) z i + 1) (upper t f inside) in
             omega arith,
       )
@@ -60,7 +60,7 @@ module _ (n : ChainNumbers) (terms : LawfulTerms n) (lives : LivesInRange n) whe
   made_again s inside =
       let t = s / (n.count + 1) in
       let small : t < product (life n) n.count = div_below s (n.count + 1) (product (life n) n.count) (omega arith) (omega (arith, mul_comm (n.count + 1) (product (life n) n.count))) in
-      let digits = number-of-digits (life n) t n.count (λ i some most. (lives i some most).0) in
+      let digits = number_of_digits (life n) t n.count (λ i some most. (lives i some most).0) in
       let whole : t % product (life n) n.count ≡ t = mod-eq_of_lt small in
       let less : (i : ℕ) → 1 ≤ i → i ≤ n.count → (age_in n s i - 1) * product (life n) (i - 1) ≡ digit (life n) t i * product (life n) (i - 1) = λ i some most. let e : age_in n s i - 1 ≡ digit (life n) t i = omega arith in ap (λ z. z * product (life n) (i - 1)) e in
       let same : number (life n) (λ i. age_in n s i - 1) n.count ≡ t = over_alike _ _ n.count less ∙ digits ∙ whole in
@@ -91,19 +91,19 @@ module _ (n : ChainNumbers) (terms : LawfulTerms n) (lives : LivesInRange n) whe
       entries i some most = entry_of_table n (age_in n s) i terms.0.1 some most
 
       aged : Aged n (state_in n s)
-      aged i some most = let e = entries i some most in let w = age-within s i some most in (omega arith, omega arith)
+      aged i some most = let e = entries i some most in let w = age_within s i some most in (omega arith, omega arith)
 
       inside : failed_in n s ≤ n.count
       inside = omega (arith, mod_below s (n.count + 1) (omega arith))
 
-      may-be : possible n (state_in n s) ≡ true
-      may-be = and_from (nat_le (failed_in n s) n.count) _ (le-leb (failed_in n s) n.count inside) ((aged_decides n (state_in n s)).1 aged)
+      may_be : possible n (state_in n s) ≡ true
+      may_be = and_from (nat_le (failed_in n s) n.count) _ (le-leb (failed_in n s) n.count inside) ((aged_decides n (state_in n s)).1 aged)
 
       same : state_with n (entry (table_of n (age_in n s))) (failed_in n s) ≡ state_with n (age_in n s) (failed_in n s)
       same = ap (λ z. (n.count + 1) * z + failed_in n s) (over_alike _ _ n.count (λ i some most. ap (λ z. (z - 1) * product (life n) (i - 1)) (entries i some most)))
 
       numbered : s < all_states n → number_of n (state_in n s) ≡ Some s
-      numbered below = cond-true (possible n (state_in n s)) (Some (state_with n (entry (table_of n (age_in n s))) (failed_in n s))) None may-be ∙ ap Some (same ∙ made_again s below)
+      numbered below = cond-true (possible n (state_in n s)) (Some (state_with n (entry (table_of n (age_in n s))) (failed_in n s))) None may_be ∙ ap Some (same ∙ made_again s below)
 
   pub without_loss : WithoutLoss n
   without_loss = record { back = back; forth = forth }
@@ -112,8 +112,8 @@ module _ (n : ChainNumbers) (terms : LawfulTerms n) (lives : LivesInRange n) whe
 pub number_there : (n : ChainNumbers) (st : ChainState) (xs : List ℕ) (r : ℕ) → st.failed ≤ n.count → Aged n st → Entries (λ i. entry st.ages i - 1) n.count xs → r ≡ state_with n (λ i. entry xs i + 1) st.failed → Some r ≡ number_of n st
 number_there n st xs r inside aged entries is =
     let less : (i : ℕ) → 1 ≤ i → i ≤ n.count → (entry xs i + 1 - 1) * product (life n) (i - 1) ≡ (entry st.ages i - 1) * product (life n) (i - 1) = λ i some most. let e = entries i some most in let same : entry xs i + 1 - 1 ≡ entry st.ages i - 1 = omega arith in ap (λ z. z * product (life n) (i - 1)) same in
-    let may-be : possible n st ≡ true = and_from (nat_le st.failed n.count) _ (le-leb st.failed n.count inside) ((aged_decides n st).1 aged) in
-    rw may-be (ap Some (is ∙ ap (λ z. (n.count + 1) * z + st.failed) (over_alike _ _ n.count less)))
+    let may_be : possible n st ≡ true = and_from (nat_le st.failed n.count) _ (le-leb st.failed n.count inside) ((aged_decides n st).1 aged) in
+    rw may_be (ap Some (is ∙ ap (λ z. (n.count + 1) * z + st.failed) (over_alike _ _ n.count less)))
 
 pub number_absent : (n : ChainNumbers) (st : ChainState) → (Aged n st → ⊥) → None ≡ number_of n st
 number_absent n st none =

@@ -2,7 +2,7 @@
 use Rattle.std.specs.Prelude.{◌≡◌, ℕ, ◌<◌, ◌≤◌, true, List, is_some, Option}
 use Rattle.chain.specs.Numbering.{BelowLives}
 use Rattle.chain.specs.Renewals.{renews_decides, worn_decides}
-use Rattle.chain.specs.RoundTrips.{age-within}
+use Rattle.chain.specs.RoundTrips.{age_within}
 use Rattle.chain.specs.Sums.{over_alike}
 use Rattle.chain.specs.Chains.{chain_feasible, hazard_sum, hazards_at, least_order, survives}
 use Rattle.chain.specs.Over.{Entries, entry}
@@ -17,7 +17,7 @@ use Rattle.std.proofs.Common.{inl, inr, ap, arith}
 -- where none of the first k parts is left at its life, each of them starts below it
 pub starts_up_to : (n : ChainNumbers) (s x k : ℕ) → LawfulTerms n → LivesInRange n → k ≤ n.count → ((i : ℕ) → 1 ≤ i → i ≤ k → age_in n s i ≡ life n i → Holds x i) → (i : ℕ) → 1 ≤ i → i ≤ k → start_age n s x i < life n i
 starts_up_to n s x k terms lives inside worn i some most =
-    let within = age-within n terms lives s i some (omega arith) in
+    let within = age_within n terms lives s i some (omega arith) in
     elim (cases_Bool (renews x i)) [
       | inl e ↦ rw e (lives i some (omega arith)).0
       | inr e ↦ rw e (

@@ -1,6 +1,6 @@
 // What a window of a chain costs beside its work order.
 ghost use Rattle.std.specs.Prelude.{◌≡◌, ◌*◌, ◌≤◌};
-ghost use Rattle.chain.specs.Chains.{dark_seconds as the-dark, failure_charge as the-charge};
+ghost use Rattle.chain.specs.Chains.{dark_seconds as the_dark, failure_charge as the_charge};
 ghost use Rattle.chain.specs.Limits.{most_charge};
 ghost use Rattle.chain.specs.Parts.{ChargesInRange, LawfulTerms};
 
@@ -10,7 +10,7 @@ impl ChainNumbers {
     // In cents: the alarm and the surplus of the failed part, if there is one.
     pub(crate) fn failure_charge(&self, failed: usize) -> u32
         requires { (LawfulTerms self.now) × ((ChargesInRange self.now) × (failed ≤ self.now.count)) }
-        ensures value { result ≡ the-charge self.now failed }
+        ensures value { result ≡ the_charge self.now failed }
         ensures few { result ≤ 2 * most_charge }
     {
         if failed == 0 {
@@ -22,7 +22,7 @@ impl ChainNumbers {
     // The dark seconds of the failed part, if there is one.
     pub(crate) fn dark_seconds(&self, failed: usize) -> u32
         requires { (LawfulTerms self.now) × (failed ≤ self.now.count) }
-        ensures { result ≡ the-dark self.now failed }
+        ensures { result ≡ the_dark self.now failed }
     {
         match failed {
             0 => 0,

@@ -2,9 +2,9 @@
 ghost use Rattle.std.specs.Prelude.{◌≡◌, ℕ, ◌<◌, ◌≤◌, true, false, if◌then◌else◌, Some, None, MatchOption, nat_eq};
 ghost use Rattle.chain.specs.Chains.{hazards_at};
 ghost use Rattle.chain.specs.Limits.{most_life};
-ghost use Rattle.chain.specs.Over.{Entries, entry as the-entry};
-ghost use Rattle.chain.specs.Parts.{HazardsInRange, LawfulTerms, LivesInRange, hazard as the-hazard, life as the-life};
-ghost use Rattle.chain.specs.Portfolios.{renews as the-renews, start_age, worn_renewed};
+ghost use Rattle.chain.specs.Over.{Entries, entry as the_entry};
+ghost use Rattle.chain.specs.Parts.{HazardsInRange, LawfulTerms, LivesInRange, hazard as the_hazard, life as the_life};
+ghost use Rattle.chain.specs.Portfolios.{renews as the_renews, start_age, worn_renewed};
 ghost use Rattle.workorder.specs.Orders.{max_parts};
 
 use crate::numbers::ChainNumbers;
@@ -14,7 +14,7 @@ impl ChainNumbers {
     // The life of a part, from 1.
     pub(crate) fn life(&self, part: usize) -> usize
         requires { (1 ≤ part) × (part ≤ max_parts) }
-        ensures { result ≡ the-life self.now part }
+        ensures { result ≡ the_life self.now part }
     {
         self.parts[part - 1].life
     }
@@ -22,7 +22,7 @@ impl ChainNumbers {
     // The hazard of a part in a window that it starts at this age.
     pub(crate) fn hazard(&self, part: usize, age: usize) -> u32
         requires { ((1 ≤ part) × (part ≤ max_parts)) × (age < most_life) }
-        ensures { result ≡ the-hazard self.now part age }
+        ensures { result ≡ the_hazard self.now part age }
     {
         self.parts[part - 1].hazards[age]
     }
@@ -30,7 +30,7 @@ impl ChainNumbers {
     // The age at which a part starts the window, 0 if it is renewed; absent exactly when it is at its life and not renewed.
     pub(crate) fn start_age(&self, part: usize, age: usize, renewed: bool) -> Option<usize>
         requires { (1 ≤ part) × (part ≤ max_parts) }
-        ensures { result ≡ (if renewed then Some 0 else (if nat_eq age (the-life self.now part) then None else Some age)) }
+        ensures { result ≡ (if renewed then Some 0 else (if nat_eq age (the_life self.now part) then None else Some age)) }
     {
         if renewed {
             Some(0)
@@ -61,8 +61,8 @@ impl ChainNumbers {
     // The hazards of all parts at the ages at which they start the window.
     pub(crate) fn hazard_sum(&self, starts: &[usize; MAX_PARTS]) -> u32
         requires lawful_terms { (LawfulTerms self.now) × ((LivesInRange self.now) × (HazardsInRange self.now)) }
-        requires by_index { (i : ℕ) → 1 ≤ i → i ≤ self.now.count → the-entry starts.now i < the-life self.now i }
-        ensures { result ≡ hazards_at self.now (the-entry starts.now) }
+        requires by_index { (i : ℕ) → 1 ≤ i → i ≤ self.now.count → the_entry starts.now i < the_life self.now i }
+        ensures { result ≡ hazards_at self.now (the_entry starts.now) }
     {
         let mut total = 0;
         for i in 0..self.count {
@@ -86,7 +86,7 @@ impl ChainNumbers {
 
 // Whether the portfolio renews the part.
 pub(crate) fn renews(portfolio: usize, part: usize) -> bool
-    ensures { result ≡ the-renews portfolio part }
+    ensures { result ≡ the_renews portfolio part }
 {
     holds(portfolio, part)
 }

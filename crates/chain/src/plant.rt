@@ -9,9 +9,9 @@ ghost use Rattle.chain.specs.Refusals.{Refused};
 ghost use Rattle.chain.specs.States.{WithoutLoss, all_states, number_of, state_at};
 ghost use Rattle.chain.specs.Windows.{WhenFeasible};
 ghost use Rattle.interface.specs.Limits.{most_states};
-ghost use Rattle.workorder.specs.Orders.{LeastTable, NoneDearer, portfolios as least-places};
-ghost use Rattle.chain.specs.LawsLemmas.{chain-lawful, lawful_from, renewable-from};
-ghost use Rattle.workorder.proofs.WorkOrders.{table-held};
+ghost use Rattle.workorder.specs.Orders.{LeastTable, NoneDearer, portfolios as least_places};
+ghost use Rattle.chain.specs.LawsLemmas.{chain_lawful, lawful_from, renewable_from};
+ghost use Rattle.workorder.proofs.WorkOrders.{table_held};
 ghost use Rattle.std.proofs.Common.{arith};
 
 use crate::numbers::ChainNumbers;
@@ -147,7 +147,7 @@ impl Chain {
 
     // The cents of a portfolio, where a part has failed or none has.
     fn cents(&self, portfolio: usize, failed: usize) -> u32
-        requires { (portfolio < least-places) × (failed ≤ self.now.numbers.count) }
+        requires { (portfolio < least_places) × (failed ≤ self.now.numbers.count) }
         ensures { result ≡ renewal_cents self.now.numbers self.now.least portfolio failed }
     {
         if portfolio == 0 {
@@ -164,8 +164,8 @@ impl Plant for Chain {
     ghost lawful = { λ p.
         let n = p.numbers in
         let l = lawful_from n p.terms p.lives p.hazards p.charges p.dearest in
-        let right = table-held (arcs_of n) p.least p.right in
-        chain-lawful n p.least l right (omega (arith, p.counted, p.few)) (renewable-from n p.least l right p.renewable) };
+        let right = table_held (arcs_of n) p.least p.right in
+        chain_lawful n p.least l right (omega (arith, p.counted, p.few)) (renewable_from n p.least l right p.renewable) };
 
     fn states(&self) -> usize {
         self.states

@@ -1,9 +1,9 @@
 // The portfolios of a chain.
 ghost use Rattle.std.specs.Prelude.{◌≡◌, ◌≤◌, MatchBool};
-ghost use Rattle.chain.specs.Chains.{Renewable, Unrenewable, survives as the-survives};
+ghost use Rattle.chain.specs.Chains.{Renewable, Unrenewable, survives as the_survives};
 ghost use Rattle.chain.specs.Parts.{HazardsInRange, LawfulTerms, LivesInRange, arcs_of};
-ghost use Rattle.chain.specs.Portfolios.{all_portfolios, failure_renewed as the-failure};
-ghost use Rattle.workorder.specs.Orders.{LeastTable, max_parts, portfolios as least-places};
+ghost use Rattle.chain.specs.Portfolios.{all_portfolios, failure_renewed as the_failure};
+ghost use Rattle.workorder.specs.Orders.{LeastTable, max_parts, portfolios as least_places};
 
 use crate::numbers::ChainNumbers;
 use crate::parts::renews;
@@ -14,7 +14,7 @@ impl ChainNumbers {
     pub(crate) fn portfolio_count(&self) -> usize
         requires { self.now.count ≤ max_parts }
         ensures value { result ≡ all_portfolios self.now }
-        ensures few { (1 ≤ result) × (result ≤ least-places) }
+        ensures few { (1 ≤ result) × (result ≤ least_places) }
     {
         1 << self.count
     }
@@ -22,7 +22,7 @@ impl ChainNumbers {
     // Whether the failed part, if there is one, is renewed.
     pub(crate) fn failure_renewed(&self, state: usize, portfolio: usize) -> bool
         requires { self.now.count ≤ max_parts }
-        ensures { result ≡ the-failure self.now state portfolio }
+        ensures { result ≡ the_failure self.now state portfolio }
     {
         let failed = self.failed_in(state);
         failed == 0 || renews(portfolio, failed)
@@ -30,7 +30,7 @@ impl ChainNumbers {
 
     // Whether the threshold is met, where the hazards add up to this number.
     pub(crate) fn survives(&self, hazards: u32) -> bool
-        ensures { result ≡ the-survives self.now hazards }
+        ensures { result ≡ the_survives self.now hazards }
     {
         hazards <= WHOLE && self.threshold <= WHOLE - hazards
     }

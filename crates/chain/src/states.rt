@@ -1,7 +1,7 @@
 // The states of a chain: the ages of its parts, and the part that has failed.
 ghost use Rattle.std.specs.Prelude.{◌≡◌, ℕ, ◌+◌, ◌-◌, ◌<◌, ◌≤◌, MatchOption};
-ghost use Rattle.chain.specs.Over.{Entries, entry as the-entry};
-ghost use Rattle.chain.specs.Parts.{LawfulTerms, LivesInRange, life as the-life};
+ghost use Rattle.chain.specs.Over.{Entries, entry as the_entry};
+ghost use Rattle.chain.specs.Parts.{LawfulTerms, LivesInRange, life as the_life};
 ghost use Rattle.chain.specs.States.{Aged, age_in, all_states, failed_in, number_of, state_with, table_of};
 ghost use Rattle.workorder.specs.Orders.{max_parts};
 
@@ -55,9 +55,9 @@ impl ChainNumbers {
     // The number of the state in which every part is one window older than at its start, and the given part has failed.
     pub(crate) fn number_after(&self, starts: &[usize; MAX_PARTS], failed: usize) -> usize
         requires lawful_terms { (LawfulTerms self.now) × (LivesInRange self.now) }
-        requires by_index { (i : ℕ) → 1 ≤ i → i ≤ self.now.count → the-entry starts.now i < the-life self.now i }
+        requires by_index { (i : ℕ) → 1 ≤ i → i ≤ self.now.count → the_entry starts.now i < the_life self.now i }
         requires failed_le_count { failed ≤ self.now.count }
-        ensures { result ≡ state_with self.now (λ i. the-entry starts.now i + 1) failed }
+        ensures { result ≡ state_with self.now (λ i. the_entry starts.now i + 1) failed }
     {
         let mut total = 0;
         let mut width = 1;
@@ -71,7 +71,7 @@ impl ChainNumbers {
     // The ages of a state, each less 1; absent exactly when a part cannot have its age.
     fn starts_before(&self, state: &ChainState) -> Option<[usize; MAX_PARTS]>
         requires { self.now.count ≤ max_parts }
-        ensures { MatchOption result (Aged self.now state.now → ⊥) (λ starts. Aged self.now state.now × Entries (λ i. the-entry state.now.ages i - 1) self.now.count starts) }
+        ensures { MatchOption result (Aged self.now state.now → ⊥) (λ starts. Aged self.now state.now × Entries (λ i. the_entry state.now.ages i - 1) self.now.count starts) }
     {
         let mut starts = [0; MAX_PARTS];
         for i in 0..self.count {

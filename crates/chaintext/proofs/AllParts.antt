@@ -10,16 +10,16 @@ use Rattle.chaintext.specs.declared.reader.Head.{Head}
 use Rattle.chaintext.specs.declared.reader.Stage.TheVariants as stage
 use Rattle.chaintext.specs.Writing.{part_text, parts_text}
 use Rattle.chaintext.proofs.Lines.{Ended, Ends}
-use Rattle.chaintext.proofs.Parts.{Good, Tail, behind_part, part_begun, part-goes, reader}
+use Rattle.chaintext.proofs.Parts.{Good, Tail, behind_part, part_begun, part_goes, reader}
 
 module _ (h : Head) (few : h.count ≤ max_parts) (last : ChainReader) (after : List ℕ) where
   -- behind a part comes the next one
-  next-part : (o : ℕ) → o < h.count → behind_part h o ≡ stage.Part
-  next-part o l = cond-true _ _ _ (lt-ltb o h.count l)
+  next_part : (o : ℕ) → o < h.count → behind_part h o ≡ stage.Part
+  next_part o l = cond-true _ _ _ (lt-ltb o h.count l)
 
   -- and behind the last the arcs
-  last-part : (o : ℕ) → o ≡ h.count → behind_part h o ≡ stage.Arc
-  last-part o e = cond-false _ _ _ (le-ltb o h.count (omega arith))
+  last_part : (o : ℕ) → o ≡ h.count → behind_part h o ≡ stage.Arc
+  last_part o e = cond-false _ _ _ (le-ltb o h.count (omega arith))
 
   -- a reading that ended began with the lines of these parts
   pub record PartsBegun (before : List Part) (many : ℕ) (text : List ℕ) : Type 0 where
@@ -37,7 +37,7 @@ module _ (h : Head) (few : h.count ≤ max_parts) (last : ChainReader) (after : 
     long = refl;
     whole = t.whole ∙ ap (λ l. l ++ t.rest) (sym (append-nil (part_text (length before + 1) t.part)));
     good = (t.known, tt);
-    ended = subst (λ o. Ended (reader stage.Arc h o (before ++ (t.part ∷ [])) []) t.rest last after) e (subst (λ s. Ended (reader s h (length before + 1) (before ++ (t.part ∷ [])) []) t.rest last after) (last-part (length before + 1) e) t.ended);
+    ended = subst (λ o. Ended (reader stage.Arc h o (before ++ (t.part ∷ [])) []) t.rest last after) e (subst (λ s. Ended (reader s h (length before + 1) (before ++ (t.part ∷ [])) []) t.rest last after) (last_part (length before + 1) e) t.ended);
   }
 
   begun_more : (before : List Part) (text : List ℕ) (many : ℕ) (room : length before < max_parts) (t : Tail h before room (part_text (length before + 1)) Good text last after) → PartsBegun (before ++ (t.part ∷ [])) many t.rest → PartsBegun before (suc many) text
@@ -52,7 +52,7 @@ module _ (h : Head) (few : h.count ≤ max_parts) (last : ChainReader) (after : 
 
   going_on : (before : List Part) (p : Part) (text : List ℕ) → length before + 1 < h.count → Ended (reader (behind_part h (length before + 1)) h (length before + 1) (before ++ (p ∷ [])) []) text last after → Ended (reader stage.Part h (length (before ++ (p ∷ []))) (before ++ (p ∷ [])) []) text last after
   going_on before p text more ended =
-      subst (λ o. Ended (reader stage.Part h o (before ++ (p ∷ [])) []) text last after) (sym (length_push before p)) (subst (λ s. Ended (reader s h (length before + 1) (before ++ (p ∷ [])) []) text last after) (next-part (length before + 1) more) ended)
+      subst (λ o. Ended (reader stage.Part h o (before ++ (p ∷ [])) []) text last after) (sym (length_push before p)) (subst (λ s. Ended (reader s h (length before + 1) (before ++ (p ∷ [])) []) text last after) (next_part (length before + 1) more) ended)
 
   pub parts_begun : (j : ℕ) (before : List Part) (text : List ℕ) → length before + suc j ≡ h.count → Ended (reader stage.Part h (length before) before []) text last after → PartsBegun before (suc j) text
   parts_begun zero before text e ended =
@@ -68,13 +68,13 @@ module _ (h : Head) (few : h.count ≤ max_parts) (last : ChainReader) (after : 
   parts_go p [] before text e good ends =
       let room : length before < max_parts = omega arith in
       let all : length before + 1 ≡ h.count = omega arith in
-      let ends1 = subst (λ s. Ends (reader s h (length before + 1) (before ++ (p ∷ [])) []) text last after) (sym (last-part (length before + 1) all)) (subst (λ o. Ends (reader stage.Arc h o (before ++ (p ∷ [])) []) text last after) (sym all) ends) in
-      subst (λ l. Ends (reader stage.Part h (length before) before []) (l ++ text) last after) (sym (append-nil (part_text (length before + 1) p))) (part-goes h before room p text last after good.0 ends1)
+      let ends1 = subst (λ s. Ends (reader s h (length before + 1) (before ++ (p ∷ [])) []) text last after) (sym (last_part (length before + 1) all)) (subst (λ o. Ends (reader stage.Arc h o (before ++ (p ∷ [])) []) text last after) (sym all) ends) in
+      subst (λ l. Ends (reader stage.Part h (length before) before []) (l ++ text) last after) (sym (append-nil (part_text (length before + 1) p))) (part_goes h before room p text last after good.0 ends1)
   parts_go p (q ∷ ps) before text e good ends =
       let room : length before < max_parts = omega arith in
       let more : length before + 1 < h.count = omega arith in
       let long : length (before ++ (p ∷ [])) ≡ length before + 1 = length_push before p in
       let ends1 = parts_go q ps (before ++ (p ∷ [])) text (omega arith) good.1 (subst (λ l. Ends (reader stage.Arc h h.count l []) text last after) (sym (append_assoc before (p ∷ []) (q ∷ ps))) ends) in
       let ends2 = subst (λ o. Ends (reader stage.Part h o (before ++ (p ∷ [])) []) (parts_text (o + 1) (q ∷ ps) ++ text) last after) long ends1 in
-      let ends3 = subst (λ s. Ends (reader s h (length before + 1) (before ++ (p ∷ [])) []) (parts_text (length before + 1 + 1) (q ∷ ps) ++ text) last after) (sym (next-part (length before + 1) more)) ends2 in
-      subst (λ l. Ends (reader stage.Part h (length before) before []) l last after) (sym (append_assoc (part_text (length before + 1) p) (parts_text (length before + 1 + 1) (q ∷ ps)) text)) (part-goes h before room p (parts_text (length before + 1 + 1) (q ∷ ps) ++ text) last after good.0 ends3)
+      let ends3 = subst (λ s. Ends (reader s h (length before + 1) (before ++ (p ∷ [])) []) (parts_text (length before + 1 + 1) (q ∷ ps) ++ text) last after) (sym (next_part (length before + 1) more)) ends2 in
+      subst (λ l. Ends (reader stage.Part h (length before) before []) l last after) (sym (append_assoc (part_text (length before + 1) p) (parts_text (length before + 1 + 1) (q ∷ ps)) text)) (part_goes h before room p (parts_text (length before + 1 + 1) (q ∷ ps) ++ text) last after good.0 ends3)

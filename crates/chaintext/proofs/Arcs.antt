@@ -12,7 +12,7 @@ use Rattle.reading.specs.Written.{line_of}
 use Rattle.reading.specs.declared.keys.Key.TheVariants as key
 use Rattle.reading.specs.declared.rules.Rule.TheVariants.{WrongArc}
 use Rattle.reading.proofs.ValueLaws.{list_law}
-use Rattle.reading.proofs.WrittenLaws.{widest_value, list-printable, list-short, plain_bytes}
+use Rattle.reading.proofs.WrittenLaws.{widest_value, list_printable, list_short, plain_bytes}
 use Rattle.workorder.specs.Orders.{max_parts}
 use Rattle.workorder.specs.declared.Arc.{Arc}
 use Rattle.chain.specs.Limits.{most_charge, most_arcs}
@@ -23,9 +23,9 @@ use Rattle.chaintext.specs.declared.reader.Stage.TheVariants as stage
 use Rattle.chaintext.specs.Counted.{done_at}
 use Rattle.chaintext.specs.Steps.{add_arc, arc_by, arc_of, arc_step, behind, due, end_step, no_arc, rising, room, straight, with_arc}
 use Rattle.chaintext.specs.Writing.{ArcWithin, Before, arc_text, arcs_text}
-use Rattle.chaintext.proofs.Lines.{Begun, Ended, Ends, LineRead, begun-with, done_ended, due_came, goes, line_read, word_came}
+use Rattle.chaintext.proofs.Lines.{Begun, Ended, Ends, LineRead, begun_with, done_ended, due_came, goes, line_read, word_came}
 use Rattle.chaintext.proofs.Parts.{no_stage, reader}
-use Rattle.chaintext.proofs.Tables.{getD-used, laid, laid_next}
+use Rattle.chaintext.proofs.Tables.{get_d_used, laid, laid_next}
 
 -- an arc of a chain of so many parts, with its cents in range
 abbrev pub GoodArc : ℕ → Arc → Type 0
@@ -123,20 +123,20 @@ arc_read v most a e = found (list_of v most_charge 3) refl e
             subst (ArcRead v most) same (record { is = law.0 ∙ ap (λ l. joined (map decimal l)) three; from = leb-true _ _ parts.0; to = leb-true _ _ parts.1; cents = each.1.1.0 })
 
 module _ (count : ℕ) (few : count ≤ max_parts) (a : Arc) (good : GoodArc count a) where
-  numbers-within : All (λ n. n ≤ most_charge) (numbers a)
-  numbers-within = (omega (arith, good.0.from), (omega (arith, good.0.to), (good.1, tt)))
+  numbers_within : All (λ n. n ≤ most_charge) (numbers a)
+  numbers_within = (omega (arith, good.0.from), (omega (arith, good.0.to), (good.1, tt)))
 
-  arc-back : arc_of (joined (map decimal (numbers a))) count ≡ Some a
-  arc-back =
-      ap (arc_by count) ((list_law (joined (map decimal (numbers a))) most_charge 3 (omega arith) (numbers a)).1 (refl, omega arith, refl, numbers-within)) ∙ cond-true _ _ _ (and_from _ _ (le-leb a.from count good.0.from) (le-leb a.to count good.0.to))
+  arc_back : arc_of (joined (map decimal (numbers a))) count ≡ Some a
+  arc_back =
+      ap (arc_by count) ((list_law (joined (map decimal (numbers a))) most_charge 3 (omega arith) (numbers a)).1 (refl, omega arith, refl, numbers_within)) ∙ cond-true _ _ _ (and_from _ _ (le-leb a.from count good.0.from) (le-leb a.to count good.0.to))
 
 -- the arcs of a chain with this head and these parts
 module _ (h : Head) (few : h.count ≤ max_parts) (o : ℕ) (ps : List Part) where
   abbrev at : List Arc → ChainReader
   at arcs = reader stage.Arc h o ps arcs
 
-  arc-added : (arcs : List Arc) (a : Arc) → length arcs < most_arcs → with_arc (at arcs) a ≡ at (arcs ++ (a ∷ []))
-  arc-added arcs a free = (λ i. record { stage = stage.Arc; head = h; opened = o; parts = (at arcs).parts; arc_count = sym (length_push arcs a) i; arcs = laid_next most_arcs no_arc arcs a (length arcs) refl free i })
+  arc_added : (arcs : List Arc) (a : Arc) → length arcs < most_arcs → with_arc (at arcs) a ≡ at (arcs ++ (a ∷ []))
+  arc_added arcs a free = (λ i. record { stage = stage.Arc; head = h; opened = o; parts = (at arcs).parts; arc_count = sym (length_push arcs a) i; arcs = laid_next most_arcs no_arc arcs a (length arcs) refl free i })
 
   -- what the reader has found, where it took an arc
   record Added (arcs : List Arc) (v : List ℕ) (next : ChainReader) : Type 0 where
@@ -161,12 +161,12 @@ module _ (h : Head) (few : h.count ≤ max_parts) (o : ℕ) (ps : List Part) whe
               let second = and_parts (straight a) (rising (at arcs) a) first.1 in
               let free : length arcs < most_arcs = ltb-true _ _ first.0 in
               let made : with_arc (at arcs) a ≡ next = cc in
-              record { arc = a; read = arc_read v h.count a q; free = free; fit = second.0; follows = second.1; is = sym (arc-added arcs a free) ∙ made }
+              record { arc = a; read = arc_read v h.count a q; free = free; fit = second.0; follows = second.1; is = sym (arc_added arcs a free) ∙ made }
 
   -- the test of the order says what it should
   follows_read : (arcs : List Arc) (a : Arc) → rising (at arcs) a ≡ true → Follows arcs a
   follows_read arcs a e some =
-      let last : get_or (laid most_arcs no_arc arcs) (length arcs - 1) no_arc ≡ get_or arcs (length arcs - 1) no_arc = getD-used most_arcs no_arc arcs (length arcs - 1) no_arc (omega arith) in
+      let last : get_or (laid most_arcs no_arc arcs) (length arcs - 1) no_arc ≡ get_or arcs (length arcs - 1) no_arc = get_d_used most_arcs no_arc arcs (length arcs - 1) no_arc (omega arith) in
       ⊎_elim
       (λ z. let none : length arcs ≡ 0 = eqb-true (length arcs) 0 z in absurd (omega arith))
       (λ b. subst (λ x. Before x a) last ((behind_decides (get_or (laid most_arcs no_arc arcs) (length arcs - 1) no_arc) a).0 (and_parts _ _ b).1))
@@ -175,7 +175,7 @@ module _ (h : Head) (few : h.count ≤ max_parts) (o : ℕ) (ps : List Part) whe
   follows_back : (arcs : List Arc) (a : Arc) → length arcs ≤ most_arcs → Follows arcs a → rising (at arcs) a ≡ true
   follows_back arcs a fits follows = ⊎_elim
       (λ (some : 0 < length arcs).
-      let last : get_or (laid most_arcs no_arc arcs) (length arcs - 1) no_arc ≡ get_or arcs (length arcs - 1) no_arc = getD-used most_arcs no_arc arcs (length arcs - 1) no_arc (omega arith) in
+      let last : get_or (laid most_arcs no_arc arcs) (length arcs - 1) no_arc ≡ get_or arcs (length arcs - 1) no_arc = get_d_used most_arcs no_arc arcs (length arcs - 1) no_arc (omega arith) in
       or_right _ _ (and_from _ _ (le-leb (length arcs) most_arcs fits) ((behind_decides (get_or (laid most_arcs no_arc arcs) (length arcs - 1) no_arc) a).1 (subst (λ x. Before x a) (sym last) (follows some)))))
       (λ (none : length arcs ≤ 0). or_left _ _ (eq-eqb (length arcs) 0 (omega arith)))
       (cases_lt 0 (length arcs))
@@ -189,10 +189,10 @@ module _ (h : Head) (few : h.count ≤ max_parts) (o : ℕ) (ps : List Part) whe
         by_key l = tested (bytes_eq (name_of (key_of l.name)) (name_of key.Arc)) refl l.step
           where
             tested : (t : Bool) → bytes_eq (name_of (key_of l.name)) (name_of key.Arc) ≡ t → cond t (arc_step (at arcs) l.value) (due key.End (key_of l.name) (end_step (at arcs) l.value)) ≡ Ok l.next → Begun key.Arc (arc_step (at arcs)) text last after ⊎ Begun key.End (end_step (at arcs)) text last after
-            tested true q e = inl (begun-with (at arcs) (no_stage refl) key.Arc refl (arc_step (at arcs)) text last after l q e)
+            tested true q e = inl (begun_with (at arcs) (no_stage refl) key.Arc refl (arc_step (at arcs)) text last after l q e)
             tested false q e =
                 let came = due_came (bytes_eq (name_of (key_of l.name)) (name_of key.End)) (end_step (at arcs) l.value) l.next e in
-                inr (begun-with (at arcs) (no_stage refl) key.End refl (end_step (at arcs)) text last after l came.0 came.1)
+                inr (begun_with (at arcs) (no_stage refl) key.End refl (end_step (at arcs)) text last after l came.0 came.1)
 
     -- all arcs that were left, up to the end
     pub record ArcsBegun (arcs : List Arc) (text : List ℕ) : Type 0 where
@@ -246,12 +246,12 @@ module _ (h : Head) (few : h.count ≤ max_parts) (o : ℕ) (ps : List Part) whe
   -- an arc is written so, and the reading goes on behind it
   arc_goes : (arcs : List Arc) (a : Arc) (text : List ℕ) (last : ChainReader) (after : List ℕ) → length arcs < most_arcs → GoodArc h.count a → Follows arcs a → Ends (at (arcs ++ (a ∷ []))) text last after → Ends (at arcs) (arc_text a ++ text) last after
   arc_goes arcs a text last after free good follows ends =
-      let within = numbers-within h.count few a good in
-      let short : length (joined (map decimal (numbers a))) ≤ widest_value = omega (arith, list-short most_charge 7 (omega arith) (omega arith) (omega arith) (numbers a) within) in
+      let within = numbers_within h.count few a good in
+      let short : length (joined (map decimal (numbers a))) ≤ widest_value = omega (arith, list_short most_charge 7 (omega arith) (omega arith) (omega arith) (numbers a) within) in
       let fit : straight a ≡ true = (straight_decides a).1 (good.0.some, good.0.apart) in
       let tests : (room (at arcs) && (straight a && rising (at arcs) a)) ≡ true = and_from _ _ (lt-ltb (length arcs) most_arcs free) (and_from _ _ fit (follows_back arcs a (omega arith) follows)) in
-      let step : arc_step (at arcs) (joined (map decimal (numbers a))) ≡ Ok (at (arcs ++ (a ∷ []))) = ap (add_arc (at arcs)) (arc-back h.count few a good) ∙ cond-true _ _ _ tests ∙ ap Ok (arc-added arcs a free) in
-      goes (at arcs) (no_stage refl) key.Arc refl (at (arcs ++ (a ∷ []))) (joined (map decimal (numbers a))) text last after (list-printable most_charge 7 (omega arith) (omega arith) (omega arith) (numbers a) within) short step ends
+      let step : arc_step (at arcs) (joined (map decimal (numbers a))) ≡ Ok (at (arcs ++ (a ∷ []))) = ap (add_arc (at arcs)) (arc_back h.count few a good) ∙ cond-true _ _ _ tests ∙ ap Ok (arc_added arcs a free) in
+      goes (at arcs) (no_stage refl) key.Arc refl (at (arcs ++ (a ∷ []))) (joined (map decimal (numbers a))) text last after (list_printable most_charge 7 (omega arith) (omega arith) (omega arith) (numbers a) within) short step ends
 
   -- all arcs and the end
   pub arcs_go : (more arcs : List Arc) (after : List ℕ) → Orderly h.count (arcs ++ more) → length (arcs ++ more) ≤ most_arcs → Ends (at arcs) (arcs_text more ++ (line_of key.End (codes "plant") ++ after)) (reader stage.Done h o ps (arcs ++ more)) after

@@ -9,8 +9,8 @@ pub hazards_read : (v : List ℕ) (life n : ℕ) (out old rest : List ℕ) → n
     → Some (out ++ rest) ≡ hazards_of v life
 hazards_read v life n out old rest same few some is zeros =
     sym (cond-true (leb life most_life) _ _ (le-leb life most_life few)
-    ∙ by-case (list_of v most_hazard n) (ap (λ k. list_of v most_hazard k) same) some is)
+    ∙ by_case (list_of v most_hazard n) (ap (λ k. list_of v most_hazard k) same) some is)
   where
-    by-case : (o : Option (List ℕ)) → o ≡ list_of v most_hazard life → is_some o ≡ true → out ≡ unwrap_or o old → padded life (list_of v most_hazard life) ≡ Some (out ++ rest)
-    by-case None e s h = let z : ◌≡◌ {A = ℕ} 0 1 = cc in absurd (omega arith)
-    by-case (Some hs) e s h = sym (ap (padded life) e) ∙ ap (λ w. Some (w ++ replicate (most_life - life) 0)) (sym h) ∙ ap (λ w. Some (out ++ w)) (sym zeros)
+    by_case : (o : Option (List ℕ)) → o ≡ list_of v most_hazard life → is_some o ≡ true → out ≡ unwrap_or o old → padded life (list_of v most_hazard life) ≡ Some (out ++ rest)
+    by_case None e s h = let z : ◌≡◌ {A = ℕ} 0 1 = cc in absurd (omega arith)
+    by_case (Some hs) e s h = sym (ap (padded life) e) ∙ ap (λ w. Some (w ++ replicate (most_life - life) 0)) (sym h) ∙ ap (λ w. Some (out ++ w)) (sym zeros)

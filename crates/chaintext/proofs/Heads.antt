@@ -13,7 +13,7 @@ use Rattle.chaintext.specs.declared.reader.Stage.{Stage}
 use Rattle.chaintext.specs.declared.reader.Stage.TheVariants as stage
 use Rattle.chaintext.specs.Reads.{fresh}
 use Rattle.chaintext.specs.Steps.{kind_step}
-use Rattle.chaintext.proofs.Lines.{Ended, Ends, before_lines, begun, goes-due, number-begun, number-goes, word_came}
+use Rattle.chaintext.proofs.Lines.{Ended, Ends, before_lines, begun, goes_due, number_begun, number_goes, word_came}
 use Rattle.chaintext.proofs.Parts.{no_stage, reader}
 
 abbrev head : ℕ → ℕ → ℕ → ℕ → Head
@@ -55,15 +55,15 @@ pub record HeadTail (lines : Head → List ℕ) (Known : Head → Type 0) (text 
   pub ended : Ended (at stage.Part head) rest last after
 
 module _ (last : ChainReader) (after : List ℕ) where
-  alarm-tail : (c t s : ℕ) (text : List ℕ) → Ended (at stage.Alarm (head c t s 0)) text last after → HeadTail alarm_lines (λ h. (h.count ≡ c) × (h.threshold ≡ t) × (h.setup ≡ s) × (h.alarm ≤ most_charge)) text last after
-  alarm-tail c t s text ended =
-      let b = number-begun (at stage.Alarm (head c t s 0)) (no_stage refl) key.Alarm refl 0 most_charge (omega arith) (λ n. at stage.Part (head c t s n)) (λ k v. refl) text last after ended in
+  alarm_tail : (c t s : ℕ) (text : List ℕ) → Ended (at stage.Alarm (head c t s 0)) text last after → HeadTail alarm_lines (λ h. (h.count ≡ c) × (h.threshold ≡ t) × (h.setup ≡ s) × (h.alarm ≤ most_charge)) text last after
+  alarm_tail c t s text ended =
+      let b = number_begun (at stage.Alarm (head c t s 0)) (no_stage refl) key.Alarm refl 0 most_charge (omega arith) (λ n. at stage.Part (head c t s n)) (λ k v. refl) text last after ended in
       record { head = head c t s b.number; rest = b.rest; whole = b.whole; known = (refl, refl, refl, b.high); ended = b.ended }
 
-  setup-tail : (c t : ℕ) (text : List ℕ) → Ended (at stage.Setup (head c t 0 0)) text last after → HeadTail setup_lines (λ h. (h.count ≡ c) × (h.threshold ≡ t) × (h.setup ≤ most_charge) × (h.alarm ≤ most_charge)) text last after
-  setup-tail c t text ended =
-      let b = number-begun (at stage.Setup (head c t 0 0)) (no_stage refl) key.Setup refl 0 most_charge (omega arith) (λ n. at stage.Alarm (head c t n 0)) (λ k v. refl) text last after ended in
-      let u = alarm-tail c t b.number b.rest b.ended in
+  setup_tail : (c t : ℕ) (text : List ℕ) → Ended (at stage.Setup (head c t 0 0)) text last after → HeadTail setup_lines (λ h. (h.count ≡ c) × (h.threshold ≡ t) × (h.setup ≤ most_charge) × (h.alarm ≤ most_charge)) text last after
+  setup_tail c t text ended =
+      let b = number_begun (at stage.Setup (head c t 0 0)) (no_stage refl) key.Setup refl 0 most_charge (omega arith) (λ n. at stage.Alarm (head c t n 0)) (λ k v. refl) text last after ended in
+      let u = alarm_tail c t b.number b.rest b.ended in
       record {
         head = u.head;
         rest = u.rest;
@@ -72,10 +72,10 @@ module _ (last : ChainReader) (after : List ℕ) where
         ended = u.ended;
       }
 
-  threshold-tail : (c : ℕ) (text : List ℕ) → Ended (at stage.Threshold (head c 0 0 0)) text last after → HeadTail threshold_lines (λ h. (h.count ≡ c) × (h.threshold ≤ most_threshold) × (h.setup ≤ most_charge) × (h.alarm ≤ most_charge)) text last after
-  threshold-tail c text ended =
-      let b = number-begun (at stage.Threshold (head c 0 0 0)) (no_stage refl) key.Threshold refl 0 most_threshold (omega arith) (λ n. at stage.Setup (head c n 0 0)) (λ k v. refl) text last after ended in
-      let u = setup-tail c b.number b.rest b.ended in
+  threshold_tail : (c : ℕ) (text : List ℕ) → Ended (at stage.Threshold (head c 0 0 0)) text last after → HeadTail threshold_lines (λ h. (h.count ≡ c) × (h.threshold ≤ most_threshold) × (h.setup ≤ most_charge) × (h.alarm ≤ most_charge)) text last after
+  threshold_tail c text ended =
+      let b = number_begun (at stage.Threshold (head c 0 0 0)) (no_stage refl) key.Threshold refl 0 most_threshold (omega arith) (λ n. at stage.Setup (head c n 0 0)) (λ k v. refl) text last after ended in
+      let u = setup_tail c b.number b.rest b.ended in
       record {
         head = u.head;
         rest = u.rest;
@@ -84,10 +84,10 @@ module _ (last : ChainReader) (after : List ℕ) where
         ended = u.ended;
       }
 
-  count-tail : (text : List ℕ) → Ended (at stage.Parts (head 0 0 0 0)) text last after → HeadTail count_lines GoodHead text last after
-  count-tail text ended =
-      let b = number-begun (at stage.Parts (head 0 0 0 0)) (no_stage refl) key.Parts refl 1 max_parts (omega arith) (λ n. at stage.Threshold (head n 0 0 0)) (λ k v. refl) text last after ended in
-      let u = threshold-tail b.number b.rest b.ended in
+  count_tail : (text : List ℕ) → Ended (at stage.Parts (head 0 0 0 0)) text last after → HeadTail count_lines GoodHead text last after
+  count_tail text ended =
+      let b = number_begun (at stage.Parts (head 0 0 0 0)) (no_stage refl) key.Parts refl 1 max_parts (omega arith) (λ n. at stage.Threshold (head n 0 0 0)) (λ k v. refl) text last after ended in
+      let u = threshold_tail b.number b.rest b.ended in
       record {
         head = u.head;
         rest = u.rest;
@@ -97,11 +97,11 @@ module _ (last : ChainReader) (after : List ℕ) where
       }
 
   -- a reading that ended began with the lines of a head
-  pub head-begun : (text : List ℕ) → Ended fresh text last after → HeadTail head_lines GoodHead text last after
-  head-begun text ended =
+  pub head_begun : (text : List ℕ) → Ended fresh text last after → HeadTail head_lines GoodHead text last after
+  head_begun text ended =
       let b = begun fresh (no_stage refl) key.Kind refl (kind_step fresh) text last after (λ k v. refl) ended in
       let came = word_came b.value (codes "chain") (at stage.Parts (head 0 0 0 0)) b.next b.step in
-      let u = count-tail b.rest (subst (λ (d : ChainReader). Ended d b.rest last after) (sym came.1) b.ended) in
+      let u = count_tail b.rest (subst (λ (d : ChainReader). Ended d b.rest last after) (sym came.1) b.ended) in
       record {
         head = u.head;
         rest = u.rest;
@@ -111,17 +111,17 @@ module _ (last : ChainReader) (after : List ℕ) where
       }
 
   -- the lines of a head are written so, and the reading goes on behind them
-  pub head-goes : (h : Head) (text : List ℕ) → GoodHead h → Ends (at stage.Part h) text last after → Ends fresh (head_lines h ++ text) last after
-  head-goes h text good ends =
+  pub head_goes : (h : Head) (text : List ℕ) → GoodHead h → Ends (at stage.Part h) text last after → Ends fresh (head_lines h ++ text) last after
+  head_goes h text good ends =
       let alarm : List ℕ = number_line key.Alarm h.alarm ++ text in
       let setup : List ℕ = number_line key.Setup h.setup ++ alarm in
       let threshold : List ℕ = number_line key.Threshold h.threshold ++ setup in
       let count : List ℕ = number_line key.Parts h.count ++ threshold in
-      let e4 : Ends (at stage.Alarm (head h.count h.threshold h.setup 0)) alarm last after = number-goes (at stage.Alarm (head h.count h.threshold h.setup 0)) (no_stage refl) key.Alarm refl 0 most_charge (omega arith) (λ n. at stage.Part (head h.count h.threshold h.setup n)) (λ k v. refl) h.alarm text last after (omega arith) good.alarm ends in
-      let e3 : Ends (at stage.Setup (head h.count h.threshold 0 0)) setup last after = number-goes (at stage.Setup (head h.count h.threshold 0 0)) (no_stage refl) key.Setup refl 0 most_charge (omega arith) (λ n. at stage.Alarm (head h.count h.threshold n 0)) (λ k v. refl) h.setup alarm last after (omega arith) good.setup e4 in
-      let e2 : Ends (at stage.Threshold (head h.count 0 0 0)) threshold last after = number-goes (at stage.Threshold (head h.count 0 0 0)) (no_stage refl) key.Threshold refl 0 most_threshold (omega arith) (λ n. at stage.Setup (head h.count n 0 0)) (λ k v. refl) h.threshold setup last after (omega arith) good.threshold e3 in
-      let e1 : Ends (at stage.Parts (head 0 0 0 0)) count last after = number-goes (at stage.Parts (head 0 0 0 0)) (no_stage refl) key.Parts refl 1 max_parts (omega arith) (λ n. at stage.Threshold (head n 0 0 0)) (λ k v. refl) h.count threshold last after good.some good.count e2 in
-      let e0 : Ends fresh (line_of key.Kind (codes "chain") ++ count) last after = goes-due fresh (no_stage refl) key.Kind refl (kind_step fresh) (at stage.Parts (head 0 0 0 0)) (codes "chain") count last after (λ k v. refl) (plain_bytes (codes "chain") refl).1 (leb-true (length (codes "chain")) widest_value refl) refl e1 in
+      let e4 : Ends (at stage.Alarm (head h.count h.threshold h.setup 0)) alarm last after = number_goes (at stage.Alarm (head h.count h.threshold h.setup 0)) (no_stage refl) key.Alarm refl 0 most_charge (omega arith) (λ n. at stage.Part (head h.count h.threshold h.setup n)) (λ k v. refl) h.alarm text last after (omega arith) good.alarm ends in
+      let e3 : Ends (at stage.Setup (head h.count h.threshold 0 0)) setup last after = number_goes (at stage.Setup (head h.count h.threshold 0 0)) (no_stage refl) key.Setup refl 0 most_charge (omega arith) (λ n. at stage.Alarm (head h.count h.threshold n 0)) (λ k v. refl) h.setup alarm last after (omega arith) good.setup e4 in
+      let e2 : Ends (at stage.Threshold (head h.count 0 0 0)) threshold last after = number_goes (at stage.Threshold (head h.count 0 0 0)) (no_stage refl) key.Threshold refl 0 most_threshold (omega arith) (λ n. at stage.Setup (head h.count n 0 0)) (λ k v. refl) h.threshold setup last after (omega arith) good.threshold e3 in
+      let e1 : Ends (at stage.Parts (head 0 0 0 0)) count last after = number_goes (at stage.Parts (head 0 0 0 0)) (no_stage refl) key.Parts refl 1 max_parts (omega arith) (λ n. at stage.Threshold (head n 0 0 0)) (λ k v. refl) h.count threshold last after good.some good.count e2 in
+      let e0 : Ends fresh (line_of key.Kind (codes "chain") ++ count) last after = goes_due fresh (no_stage refl) key.Kind refl (kind_step fresh) (at stage.Parts (head 0 0 0 0)) (codes "chain") count last after (λ k v. refl) (plain_bytes (codes "chain") refl).1 (leb-true (length (codes "chain")) widest_value refl) refl e1 in
       subst (λ t. Ends fresh t last after) (sym (regroup (line_of key.Kind (codes "chain")) (number_line key.Parts h.count) (number_line key.Threshold h.threshold) (number_line key.Setup h.setup) (number_line key.Alarm h.alarm) text)) e0
     where
       regroup : (a b c d e m : List ℕ) → (a ++ (b ++ (c ++ (d ++ e)))) ++ m ≡ a ++ (b ++ (c ++ (d ++ (e ++ m))))

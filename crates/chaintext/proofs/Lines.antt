@@ -15,7 +15,7 @@ use Rattle.reading.specs.declared.keys.Key.TheVariants.{Other}
 use Rattle.reading.specs.declared.rules.Rule.TheVariants.{Unexpected}
 use Rattle.reading.proofs.KeyLaws.{key_law, key_of_name, same_key}
 use Rattle.reading.proofs.ValueLaws.{between_law}
-use Rattle.reading.proofs.WrittenLaws.{widest_value, number_short, read_line, written-line, written-rest}
+use Rattle.reading.proofs.WrittenLaws.{widest_value, number_short, read_line, written_line, written_rest}
 use Rattle.chaintext.specs.declared.reader.ChainReader.{ChainReader}
 use Rattle.chaintext.specs.declared.reader.Stage.TheVariants as stage
 use Rattle.chaintext.specs.Reads.{line_step}
@@ -56,11 +56,11 @@ pub record LineRead (d : ChainReader) (text : List ℕ) (last : ChainReader) (af
 pub line_read : {d : ChainReader} {text : List ℕ} {place : ℕ} {o : CountedEnding} (last : ChainReader) (after : List ℕ) (count : ℕ) → (d.stage ≡ stage.Done → ⊥) → CountedReads d text place o → o ≡ complete_at last after count → LineRead d text last after
 line_read last after count going (done_at e) q = absurd (going e)
 line_read last after count going (stop_at n s) q = let z : ◌≡◌ {A = ℕ} 0 1 = cc in absurd (omega arith)
-line_read {d} {text} {place} {o} last after count going (more_at {e = next} n s r) q = by-line (line_at text) refl s
+line_read {d} {text} {place} {o} last after count going (more_at {e = next} n s r) q = by_line (line_at text) refl s
   where
-    by-line : (l : Said) → line_at text ≡ l → line_step d l ≡ Ok next → LineRead d text last after
-    by-line (fault m) e s = let z : ◌≡◌ {A = ℕ} 0 1 = cc in absurd (omega arith)
-    by-line (pair k v) e s = record { name = k; value = v; next = next; line = e; step = s; ended = (place + 1, (count, subst (CountedReads next (rest_at text) (place + 1)) q r)) }
+    by_line : (l : Said) → line_at text ≡ l → line_step d l ≡ Ok next → LineRead d text last after
+    by_line (fault m) e s = let z : ◌≡◌ {A = ℕ} 0 1 = cc in absurd (omega arith)
+    by_line (pair k v) e s = record { name = k; value = v; next = next; line = e; step = s; ended = (place + 1, (count, subst (CountedReads next (rest_at text) (place + 1)) q r)) }
 
 -- behind the end nothing more is read
 pub done_ended : {d : ChainReader} {text : List ℕ} {place : ℕ} {o : CountedEnding} (last : ChainReader) (after : List ℕ) (count : ℕ) → d.stage ≡ stage.Done → CountedReads d text place o → o ≡ complete_at last after count → (d ≡ last) × (text ≡ after)
@@ -97,8 +97,8 @@ module _ (d : ChainReader) (going : d.stage ≡ stage.Done → ⊥) (key : Key) 
   named : key ≡ Other → ⊥
   named q = omega (arith, ltb-true 0 (length (name_of key)) some, ap (λ (z : Key). length (name_of z)) q)
 
-  pub begun-with : (S : List ℕ → Step) (text : List ℕ) (last : ChainReader) (after : List ℕ) (l : LineRead d text last after) → bytes_eq (name_of (key_of l.name)) (name_of key) ≡ true → S l.value ≡ Ok l.next → Begun key S text last after
-  begun-with S text last after l same step =
+  pub begun_with : (S : List ℕ → Step) (text : List ℕ) (last : ChainReader) (after : List ℕ) (l : LineRead d text last after) → bytes_eq (name_of (key_of l.name)) (name_of key) ≡ true → S l.value ≡ Ok l.next → Begun key S text last after
+  begun_with S text last after l same step =
       let name : l.name ≡ name_of key = (key_law l.name (key_of l.name) refl key named).0 (same_key (key_of l.name) key same) in
       record { value = l.value; rest = rest_at text; next = l.next; whole = read_line text l.name l.value key l.line name; step = step; ended = l.ended }
 
@@ -106,16 +106,16 @@ module _ (d : ChainReader) (going : d.stage ≡ stage.Done → ⊥) (key : Key) 
   begun S text last after takes (place, (count, reads)) =
       let l = line_read last after count going reads refl in
       let came = due_came (bytes_eq (name_of (key_of l.name)) (name_of key)) (S l.value) l.next (sym (takes (key_of l.name) l.value) ∙ l.step) in
-      begun-with S text last after l came.0 came.1
+      begun_with S text last after l came.0 came.1
 
   pub goes : (next : ChainReader) (v text : List ℕ) (last : ChainReader) (after : List ℕ) → All Printable v → length v ≤ widest_value → chain_step d key v ≡ Ok next → Ends next text last after → Ends d (line_of key v ++ text) last after
   goes next v text last after bytes short step ends place =
-      let steps : line_step d (line_at (line_of key v ++ text)) ≡ Ok next = ap (line_step d) (written-line key named v text bytes short) ∙ ap (λ k. chain_step d k v) (key_of_name key) ∙ step in
+      let steps : line_step d (line_at (line_of key v ++ text)) ≡ Ok next = ap (line_step d) (written_line key named v text bytes short) ∙ ap (λ k. chain_step d k v) (key_of_name key) ∙ step in
       let end = ends (place + 1) in
-      (end.0, more_at going steps (subst (λ t. CountedReads next t (place + 1) (complete_at last after end.0)) (sym (written-rest key named v text bytes short)) end.1))
+      (end.0, more_at going steps (subst (λ t. CountedReads next t (place + 1) (complete_at last after end.0)) (sym (written_rest key named v text bytes short)) end.1))
 
-  pub goes-due : (S : List ℕ → Step) (next : ChainReader) (v text : List ℕ) (last : ChainReader) (after : List ℕ) → Takes d key S → All Printable v → length v ≤ widest_value → S v ≡ Ok next → Ends next text last after → Ends d (line_of key v ++ text) last after
-  goes-due S next v text last after takes bytes short step ends =
+  pub goes_due : (S : List ℕ → Step) (next : ChainReader) (v text : List ℕ) (last : ChainReader) (after : List ℕ) → Takes d key S → All Printable v → length v ≤ widest_value → S v ≡ Ok next → Ends next text last after → Ends d (line_of key v ++ text) last after
+  goes_due S next v text last after takes bytes short step ends =
       goes next v text last after bytes short (takes key v ∙ cond-true _ _ _ ((bytes_eq-Decides (name_of key) (name_of key)).1 refl) ∙ step) ends
 
 -- a number between two bounds is due
@@ -135,8 +135,8 @@ number_came None f next e = let z : ◌≡◌ {A = ℕ} 0 1 = cc in absurd (omeg
 number_came (Some n) f next e = (n, (refl, cc))
 
 module _ (d : ChainReader) (going : d.stage ≡ stage.Done → ⊥) (key : Key) (some : ltb 0 (length (name_of key)) ≡ true) (least most : ℕ) (small : most < 2 ^ 64) (f : ℕ → ChainReader) (takes : TakesNumber d key least most f) where
-  pub number-begun : (text : List ℕ) (last : ChainReader) (after : List ℕ) → Ended d text last after → NumberBegun key least most f text last after
-  number-begun text last after ended =
+  pub number_begun : (text : List ℕ) (last : ChainReader) (after : List ℕ) → Ended d text last after → NumberBegun key least most f text last after
+  number_begun text last after ended =
       let b = begun d going key some (λ v. with_number (number_between v least most) f) text last after takes ended in
       let m = number_came (number_between b.value least most) f b.next b.step in
       let is = (between_law b.value least most small m.0).0 m.1.0 in
@@ -149,9 +149,9 @@ module _ (d : ChainReader) (going : d.stage ≡ stage.Done → ⊥) (key : Key) 
         ended = subst (λ (e : ChainReader). Ended e b.rest last after) (sym m.1.1) b.ended;
       }
 
-  pub number-goes : (n : ℕ) (text : List ℕ) (last : ChainReader) (after : List ℕ) → least ≤ n → n ≤ most → Ends (f n) text last after → Ends d (number_line key n ++ text) last after
-  number-goes n text last after low high ends =
-      goes-due d going key some (λ v. with_number (number_between v least most) f) (f n) (decimal n) text last after takes (decimal_printable n (omega arith)) (number_short n (omega arith)) (ap (λ o. with_number o f) ((between_law (decimal n) least most small n).1 (refl, low, high))) ends
+  pub number_goes : (n : ℕ) (text : List ℕ) (last : ChainReader) (after : List ℕ) → least ≤ n → n ≤ most → Ends (f n) text last after → Ends d (number_line key n ++ text) last after
+  number_goes n text last after low high ends =
+      goes_due d going key some (λ v. with_number (number_between v least most) f) (f n) (decimal n) text last after takes (decimal_printable n (omega arith)) (number_short n (omega arith)) (ap (λ o. with_number o f) ((between_law (decimal n) least most small n).1 (refl, low, high))) ends
 
 -- one line in front of others
 pub before_lines : (line rest text lines behind : List ℕ) → text ≡ line ++ rest → rest ≡ lines ++ behind → text ≡ (line ++ lines) ++ behind

@@ -9,7 +9,7 @@ use Rattle.reading.specs.Values.{number_between, list_of}
 use Rattle.reading.specs.Written.{line_of, number_line, list_line}
 use Rattle.reading.specs.declared.keys.Key.TheVariants as key
 use Rattle.reading.proofs.ValueLaws.{list_law}
-use Rattle.reading.proofs.WrittenLaws.{widest_value, list-printable, list-short}
+use Rattle.reading.proofs.WrittenLaws.{widest_value, list_printable, list_short}
 use Rattle.workorder.specs.Orders.{max_parts}
 use Rattle.workorder.specs.declared.Arc.{Arc}
 use Rattle.chain.specs.Limits.{most_life, most_hazard, most_charge, most_dark, most_arcs}
@@ -22,8 +22,8 @@ use Rattle.chaintext.specs.declared.reader.Stage.TheVariants as stage
 use Rattle.chaintext.specs.Reads.{new_part}
 use Rattle.chaintext.specs.Steps.{Step, due, filled, hazards_of, no_arc, padded, place_of, with_list, with_number, with_part}
 use Rattle.chaintext.specs.Writing.{UsedUpTo, part_text}
-use Rattle.chaintext.proofs.Lines.{Ended, Ends, Takes, TakesNumber, before_lines, begun, goes-due, number-begun, number-goes}
-use Rattle.chaintext.proofs.Tables.{getD-last, getD-next, getD-used, laid, laid-front, laid-last, laid_next, laid-used, used-laid}
+use Rattle.chaintext.proofs.Lines.{Ended, Ends, Takes, TakesNumber, before_lines, begun, goes_due, number_begun, number_goes}
+use Rattle.chaintext.proofs.Tables.{get_d_last, get_d_next, get_d_used, laid, laid_front, laid_last, laid_next, laid_used, used_laid}
 
 abbrev not_done : Stage → Bool
 not_done stage.Kind = true
@@ -69,25 +69,25 @@ hazards_read v life hs few e = found (list_of v most_hazard life) refl (sym (con
         let law = (list_law v most_hazard life (omega arith) ns).0 q in
         let same : ns ++ replicate (most_life - life) 0 ≡ hs = cc in
         let is : laid most_life 0 ns ≡ hs = ap (λ m. ns ++ replicate (most_life - m) 0) law.2 ∙ same in
-        let front : take life hs ≡ ns = ap (take life) (sym is) ∙ laid-front most_life 0 ns life law.2 in
+        let front : take life hs ≡ ns = ap (take life) (sym is) ∙ laid_front most_life 0 ns life law.2 in
         let some : length ns ≤ most_life = omega (arith, law.2) in
         record {
           is = law.0 ∙ ap (λ l. joined (map decimal l)) (sym front);
-          within = λ age low. let inside : age < length ns = omega (arith, law.2) in subst (λ l. get_or l age 0 ≤ most_hazard) is (subst (λ x. x ≤ most_hazard) (sym (getD-used most_life 0 ns age 0 inside)) (All-get_or (λ x. x ≤ most_hazard) ns age 0 inside law.3));
-          used = subst (UsedUpTo life most_life 0) is (subst (λ m. UsedUpTo m most_life 0 (laid most_life 0 ns)) law.2 (laid-used most_life 0 ns some));
+          within = λ age low. let inside : age < length ns = omega (arith, law.2) in subst (λ l. get_or l age 0 ≤ most_hazard) is (subst (λ x. x ≤ most_hazard) (sym (get_d_used most_life 0 ns age 0 inside)) (All-get_or (λ x. x ≤ most_hazard) ns age 0 inside law.3));
+          used = subst (UsedUpTo life most_life 0) is (subst (λ m. UsedUpTo m most_life 0 (laid most_life 0 ns)) law.2 (laid_used most_life 0 ns some));
         }
 
 module _ (p : Part) (good : Good p) where
   front_long : length (take p.life p.hazards) ≡ p.life
-  front_long = (used-laid most_life 0 p.hazards p.life good.0.0.1 good.1).1
+  front_long = (used_laid most_life 0 p.hazards p.life good.0.0.1 good.1).1
 
-  front-within : All (λ x. x ≤ most_hazard) (take p.life p.hazards)
-  front-within = All-from_get_or (λ x. x ≤ most_hazard) (take p.life p.hazards) 0 (λ i l. let low : i < p.life = omega (arith, front_long) in subst (λ x. x ≤ most_hazard) (sym (get_or-take p.life p.hazards i 0 low)) (good.0.2 i low))
+  front_within : All (λ x. x ≤ most_hazard) (take p.life p.hazards)
+  front_within = All-from_get_or (λ x. x ≤ most_hazard) (take p.life p.hazards) 0 (λ i l. let low : i < p.life = omega (arith, front_long) in subst (λ x. x ≤ most_hazard) (sym (get_or-take p.life p.hazards i 0 low)) (good.0.2 i low))
 
-  hazards-back : hazards_of (joined (map decimal (take p.life p.hazards))) p.life ≡ Some p.hazards
-  hazards-back =
-      let listed : list_of (joined (map decimal (take p.life p.hazards))) most_hazard p.life ≡ Some (take p.life p.hazards) = (list_law (joined (map decimal (take p.life p.hazards))) most_hazard p.life (omega arith) (take p.life p.hazards)).1 (refl, good.0.0.0, front_long, front-within) in
-      cond-true _ _ _ (le-leb p.life most_life good.0.0.1) ∙ ap (padded p.life) listed ∙ ap Some (ap (λ m. take p.life p.hazards ++ replicate (most_life - m) 0) (sym front_long) ∙ sym (used-laid most_life 0 p.hazards p.life good.0.0.1 good.1).0)
+  hazards_back : hazards_of (joined (map decimal (take p.life p.hazards))) p.life ≡ Some p.hazards
+  hazards_back =
+      let listed : list_of (joined (map decimal (take p.life p.hazards))) most_hazard p.life ≡ Some (take p.life p.hazards) = (list_law (joined (map decimal (take p.life p.hazards))) most_hazard p.life (omega arith) (take p.life p.hazards)).1 (refl, good.0.0.0, front_long, front_within) in
+      cond-true _ _ _ (le-leb p.life most_life good.0.0.1) ∙ ap (padded p.life) listed ∙ ap Some (ap (λ m. take p.life p.hazards ++ replicate (most_life - m) 0) (sym front_long) ∙ sym (used_laid most_life 0 p.hazards p.life good.0.0.1 good.1).0)
 
 list_came : (o : Option (List ℕ)) (f : List ℕ → ChainReader) (next : ChainReader) → with_list o f ≡ Ok next → (hs : List ℕ) × ((o ≡ Some hs) × (f hs ≡ next))
 list_came None f next e = let z : ◌≡◌ {A = ℕ} 0 1 = cc in absurd (omega arith)
@@ -109,8 +109,8 @@ module _ (h : Head) (before : List Part) (room : length before < max_parts) wher
   mid s p = reader s h here (before ++ (p ∷ [])) []
 
   -- the part opened last stands at its place
-  in-part : (s : Stage) (table : List Part) (p : Part) (F : Part → Step) → get_or table (length before) blank ≡ p → with_part (with_table s h here table []) (place_of (with_table s h here table [])) F ≡ F p
-  in-part s table p F is =
+  in_part : (s : Stage) (table : List Part) (p : Part) (F : Part → Step) → get_or table (length before) blank ≡ p → with_part (with_table s h here table []) (place_of (with_table s h here table [])) F ≡ F p
+  in_part s table p F is =
       let back : here - 1 ≡ length before = omega arith in
       let place : place_of (with_table s h here table []) ≡ Some (length before) = cond-true _ _ _ (and_from _ _ (lt-ltb 0 here (omega arith)) (le-leb here max_parts (omega arith))) ∙ ap Some back in
       ap (λ o. with_part (with_table s h here table []) o F) place ∙ ap F is
@@ -121,61 +121,61 @@ module _ (h : Head) (before : List Part) (room : length before < max_parts) wher
       let back : here - 1 ≡ length before = omega arith in
       ap (λ k. with_table t h here (set table k p) []) back ∙ ap (λ l. with_table t h here l []) is
 
-  mid-part : (s : Stage) (p : Part) (F : Part → Step) → with_part (mid s p) (place_of (mid s p)) F ≡ F p
-  mid-part s p F = in-part s (laid max_parts new_part (before ++ (p ∷ []))) p F (getD-last max_parts new_part before p (length before) blank refl)
+  mid_part : (s : Stage) (p : Part) (F : Part → Step) → with_part (mid s p) (place_of (mid s p)) F ≡ F p
+  mid_part s p F = in_part s (laid max_parts new_part (before ++ (p ∷ []))) p F (get_d_last max_parts new_part before p (length before) blank refl)
 
-  mid-filled : (s t : Stage) (p q : Part) → filled (mid s p) t q ≡ mid t q
-  mid-filled s t p q = filled_is s t (laid max_parts new_part (before ++ (p ∷ []))) (laid max_parts new_part (before ++ (q ∷ []))) q (laid-last max_parts new_part before p q (length before) refl)
+  mid_filled : (s t : Stage) (p q : Part) → filled (mid s p) t q ≡ mid t q
+  mid_filled s t p q = filled_is s t (laid max_parts new_part (before ++ (p ∷ []))) (laid max_parts new_part (before ++ (q ∷ []))) q (laid_last max_parts new_part before p q (length before) refl)
 
   abbrev aged : ℕ → Part
   aged n = record { life = n; hazards = new_part.hazards; surplus = 0; dark = 0 }
 
-  part-due : TakesNumber (reader stage.Part h (length before) before []) key.Part here here (λ n. reader stage.Life h n before [])
-  part-due k v = ap (due key.Part k) (cond-true _ _ _ (lt-ltb (length before) max_parts room))
+  part_due : TakesNumber (reader stage.Part h (length before) before []) key.Part here here (λ n. reader stage.Life h n before [])
+  part_due k v = ap (due key.Part k) (cond-true _ _ _ (lt-ltb (length before) max_parts room))
 
-  life-due : TakesNumber (reader stage.Life h here before []) key.Life 1 most_life (λ n. mid stage.Hazard (aged n))
-  life-due k v =
-      ap (due key.Life k) (in-part stage.Life (laid max_parts new_part before) new_part _ (getD-next max_parts new_part before (length before) blank refl room) ∙ (λ i. with_number (number_between v 1 most_life) (λ n. filled_is stage.Life stage.Hazard (laid max_parts new_part before) (laid max_parts new_part (before ++ (aged n ∷ []))) (aged n) (laid_next max_parts new_part before (aged n) (length before) refl room) i)))
+  life_due : TakesNumber (reader stage.Life h here before []) key.Life 1 most_life (λ n. mid stage.Hazard (aged n))
+  life_due k v =
+      ap (due key.Life k) (in_part stage.Life (laid max_parts new_part before) new_part _ (get_d_next max_parts new_part before (length before) blank refl room) ∙ (λ i. with_number (number_between v 1 most_life) (λ n. filled_is stage.Life stage.Hazard (laid max_parts new_part before) (laid max_parts new_part (before ++ (aged n ∷ []))) (aged n) (laid_next max_parts new_part before (aged n) (length before) refl room) i)))
 
   abbrev hazarded : Part → List ℕ → Part
   hazarded p hs = record { life = p.life; hazards = hs; surplus = p.surplus; dark = p.dark }
 
-  hazard-due : (p : Part) → Takes (mid stage.Hazard p) key.Hazard (λ v. with_list (hazards_of v p.life) (λ hs. mid stage.Surplus (hazarded p hs)))
-  hazard-due p k v = ap (due key.Hazard k) (mid-part stage.Hazard p _ ∙ (λ i. with_list (hazards_of v p.life) (λ hs. mid-filled stage.Hazard stage.Surplus p (hazarded p hs) i)))
+  hazard_due : (p : Part) → Takes (mid stage.Hazard p) key.Hazard (λ v. with_list (hazards_of v p.life) (λ hs. mid stage.Surplus (hazarded p hs)))
+  hazard_due p k v = ap (due key.Hazard k) (mid_part stage.Hazard p _ ∙ (λ i. with_list (hazards_of v p.life) (λ hs. mid_filled stage.Hazard stage.Surplus p (hazarded p hs) i)))
 
   abbrev paid : Part → ℕ → Part
   paid p n = record { life = p.life; hazards = p.hazards; surplus = n; dark = p.dark }
 
-  surplus-due : (p : Part) → TakesNumber (mid stage.Surplus p) key.Surplus 0 most_charge (λ n. mid stage.Dark (paid p n))
-  surplus-due p k v = ap (due key.Surplus k) (mid-part stage.Surplus p _ ∙ (λ i. with_number (number_between v 0 most_charge) (λ n. mid-filled stage.Surplus stage.Dark p (paid p n) i)))
+  surplus_due : (p : Part) → TakesNumber (mid stage.Surplus p) key.Surplus 0 most_charge (λ n. mid stage.Dark (paid p n))
+  surplus_due p k v = ap (due key.Surplus k) (mid_part stage.Surplus p _ ∙ (λ i. with_number (number_between v 0 most_charge) (λ n. mid_filled stage.Surplus stage.Dark p (paid p n) i)))
 
   abbrev darkened : Part → ℕ → Part
   darkened p n = record { life = p.life; hazards = p.hazards; surplus = p.surplus; dark = n }
 
-  dark-due : (p : Part) → TakesNumber (mid stage.Dark p) key.Dark 0 most_dark (λ n. mid (behind_part h here) (darkened p n))
-  dark-due p k v = ap (due key.Dark k) (mid-part stage.Dark p _ ∙ (λ i. with_number (number_between v 0 most_dark) (λ n. mid-filled stage.Dark (behind_part h here) p (darkened p n) i)))
+  dark_due : (p : Part) → TakesNumber (mid stage.Dark p) key.Dark 0 most_dark (λ n. mid (behind_part h here) (darkened p n))
+  dark_due p k v = ap (due key.Dark k) (mid_part stage.Dark p _ ∙ (λ i. with_number (number_between v 0 most_dark) (λ n. mid_filled stage.Dark (behind_part h here) p (darkened p n) i)))
 
-  abbrev hazard-value : Part → List ℕ
-  hazard-value p = joined (map decimal (take p.life p.hazards))
+  abbrev hazard_value : Part → List ℕ
+  hazard_value p = joined (map decimal (take p.life p.hazards))
 
   regroup : (a b c d e m : List ℕ) → (a ++ (b ++ (c ++ (d ++ e)))) ++ m ≡ a ++ (b ++ (c ++ (d ++ (e ++ m))))
   regroup a b c d e m = simp append_assoc
 
   -- all lines of a part are written so, and the reading goes on behind it
-  pub part-goes : (p : Part) (text : List ℕ) (last : ChainReader) (after : List ℕ) → Good p → Ends (mid (behind_part h here) p) text last after → Ends (reader stage.Part h (length before) before []) (part_text here p ++ text) last after
-  part-goes p text last after good ends =
+  pub part_goes : (p : Part) (text : List ℕ) (last : ChainReader) (after : List ℕ) → Good p → Ends (mid (behind_part h here) p) text last after → Ends (reader stage.Part h (length before) before []) (part_text here p ++ text) last after
+  part_goes p text last after good ends =
       let bare : Part = aged p.life in
       let some : Part = hazarded bare p.hazards in
       let most : Part = paid some p.surplus in
       let dark : List ℕ = number_line key.Dark p.dark ++ text in
       let surplus : List ℕ = number_line key.Surplus p.surplus ++ dark in
       let hazard : List ℕ = list_line key.Hazard (take p.life p.hazards) ++ surplus in
-      let short : length (hazard-value p) ≤ widest_value = omega (arith, list-short most_hazard 5 (omega arith) (omega arith) (omega arith) (take p.life p.hazards) (front-within p good), front_long p good, good.0.0.1) in
-      let e4 : Ends (mid stage.Dark most) dark last after = number-goes (mid stage.Dark most) (no_stage refl) key.Dark refl 0 most_dark (omega arith) (λ n. mid (behind_part h here) (darkened most n)) (dark-due most) p.dark text last after (omega arith) good.0.1.1 ends in
-      let e3 : Ends (mid stage.Surplus some) surplus last after = number-goes (mid stage.Surplus some) (no_stage refl) key.Surplus refl 0 most_charge (omega arith) (λ n. mid stage.Dark (paid some n)) (surplus-due some) p.surplus dark last after (omega arith) good.0.1.0 e4 in
-      let e2 : Ends (mid stage.Hazard bare) hazard last after = goes-due (mid stage.Hazard bare) (no_stage refl) key.Hazard refl (λ v. with_list (hazards_of v p.life) (λ hs. mid stage.Surplus (hazarded bare hs))) (mid stage.Surplus some) (hazard-value p) surplus last after (hazard-due bare) (list-printable most_hazard 5 (omega arith) (omega arith) (omega arith) (take p.life p.hazards) (front-within p good)) short (ap (λ o. with_list o (λ hs. mid stage.Surplus (hazarded bare hs))) (hazards-back p good)) e3 in
-      let e1 : Ends (reader stage.Life h here before []) (number_line key.Life p.life ++ hazard) last after = number-goes (reader stage.Life h here before []) (no_stage refl) key.Life refl 1 most_life (omega arith) (λ n. mid stage.Hazard (aged n)) life-due p.life hazard last after good.0.0.0 good.0.0.1 e2 in
-      let e0 : Ends (reader stage.Part h (length before) before []) (number_line key.Part here ++ (number_line key.Life p.life ++ hazard)) last after = number-goes (reader stage.Part h (length before) before []) (no_stage refl) key.Part refl here here (omega arith) (λ n. reader stage.Life h n before []) part-due here (number_line key.Life p.life ++ hazard) last after (omega arith) (omega arith) e1 in
+      let short : length (hazard_value p) ≤ widest_value = omega (arith, list_short most_hazard 5 (omega arith) (omega arith) (omega arith) (take p.life p.hazards) (front_within p good), front_long p good, good.0.0.1) in
+      let e4 : Ends (mid stage.Dark most) dark last after = number_goes (mid stage.Dark most) (no_stage refl) key.Dark refl 0 most_dark (omega arith) (λ n. mid (behind_part h here) (darkened most n)) (dark_due most) p.dark text last after (omega arith) good.0.1.1 ends in
+      let e3 : Ends (mid stage.Surplus some) surplus last after = number_goes (mid stage.Surplus some) (no_stage refl) key.Surplus refl 0 most_charge (omega arith) (λ n. mid stage.Dark (paid some n)) (surplus_due some) p.surplus dark last after (omega arith) good.0.1.0 e4 in
+      let e2 : Ends (mid stage.Hazard bare) hazard last after = goes_due (mid stage.Hazard bare) (no_stage refl) key.Hazard refl (λ v. with_list (hazards_of v p.life) (λ hs. mid stage.Surplus (hazarded bare hs))) (mid stage.Surplus some) (hazard_value p) surplus last after (hazard_due bare) (list_printable most_hazard 5 (omega arith) (omega arith) (omega arith) (take p.life p.hazards) (front_within p good)) short (ap (λ o. with_list o (λ hs. mid stage.Surplus (hazarded bare hs))) (hazards_back p good)) e3 in
+      let e1 : Ends (reader stage.Life h here before []) (number_line key.Life p.life ++ hazard) last after = number_goes (reader stage.Life h here before []) (no_stage refl) key.Life refl 1 most_life (omega arith) (λ n. mid stage.Hazard (aged n)) life_due p.life hazard last after good.0.0.0 good.0.0.1 e2 in
+      let e0 : Ends (reader stage.Part h (length before) before []) (number_line key.Part here ++ (number_line key.Life p.life ++ hazard)) last after = number_goes (reader stage.Part h (length before) before []) (no_stage refl) key.Part refl here here (omega arith) (λ n. reader stage.Life h n before []) part_due here (number_line key.Life p.life ++ hazard) last after (omega arith) (omega arith) e1 in
       subst (λ t. Ends (reader stage.Part h (length before) before []) t last after) (sym (regroup (number_line key.Part here) (number_line key.Life p.life) (list_line key.Hazard (take p.life p.hazards)) (number_line key.Surplus p.surplus) (number_line key.Dark p.dark) text)) e0
 
   -- a reading that ended in the middle of a part: the lines that were left, the part, and what is known of it
@@ -186,62 +186,62 @@ module _ (h : Head) (before : List Part) (room : length before < max_parts) wher
     pub known : Known part
     pub ended : Ended (mid (behind_part h here) part) rest last after
 
-  abbrev dark-lines : Part → List ℕ
-  dark-lines p = number_line key.Dark p.dark
+  abbrev dark_lines : Part → List ℕ
+  dark_lines p = number_line key.Dark p.dark
 
-  abbrev surplus-lines : Part → List ℕ
-  surplus-lines p = number_line key.Surplus p.surplus ++ dark-lines p
+  abbrev surplus_lines : Part → List ℕ
+  surplus_lines p = number_line key.Surplus p.surplus ++ dark_lines p
 
-  abbrev hazard-lines : Part → List ℕ
-  hazard-lines p = list_line key.Hazard (take p.life p.hazards) ++ surplus-lines p
+  abbrev hazard_lines : Part → List ℕ
+  hazard_lines p = list_line key.Hazard (take p.life p.hazards) ++ surplus_lines p
 
-  abbrev life-lines : Part → List ℕ
-  life-lines p = number_line key.Life p.life ++ hazard-lines p
+  abbrev life_lines : Part → List ℕ
+  life_lines p = number_line key.Life p.life ++ hazard_lines p
 
   module _ (last : ChainReader) (after : List ℕ) where
-    dark_tail : (p : Part) (text : List ℕ) → Ended (mid stage.Dark p) text last after → Tail dark-lines (λ q. (q.life ≡ p.life) × (q.hazards ≡ p.hazards) × (q.surplus ≡ p.surplus) × (q.dark ≤ most_dark)) text last after
+    dark_tail : (p : Part) (text : List ℕ) → Ended (mid stage.Dark p) text last after → Tail dark_lines (λ q. (q.life ≡ p.life) × (q.hazards ≡ p.hazards) × (q.surplus ≡ p.surplus) × (q.dark ≤ most_dark)) text last after
     dark_tail p text ended =
-        let b = number-begun (mid stage.Dark p) (no_stage refl) key.Dark refl 0 most_dark (omega arith) (λ n. mid (behind_part h here) (darkened p n)) (dark-due p) text last after ended in
+        let b = number_begun (mid stage.Dark p) (no_stage refl) key.Dark refl 0 most_dark (omega arith) (λ n. mid (behind_part h here) (darkened p n)) (dark_due p) text last after ended in
         record { part = darkened p b.number; rest = b.rest; whole = b.whole; known = (refl, refl, refl, b.high); ended = b.ended }
 
-    surplus_tail : (p : Part) (text : List ℕ) → Ended (mid stage.Surplus p) text last after → Tail surplus-lines (λ q. (q.life ≡ p.life) × (q.hazards ≡ p.hazards) × (q.surplus ≤ most_charge) × (q.dark ≤ most_dark)) text last after
+    surplus_tail : (p : Part) (text : List ℕ) → Ended (mid stage.Surplus p) text last after → Tail surplus_lines (λ q. (q.life ≡ p.life) × (q.hazards ≡ p.hazards) × (q.surplus ≤ most_charge) × (q.dark ≤ most_dark)) text last after
     surplus_tail p text ended =
-        let b = number-begun (mid stage.Surplus p) (no_stage refl) key.Surplus refl 0 most_charge (omega arith) (λ n. mid stage.Dark (paid p n)) (surplus-due p) text last after ended in
+        let b = number_begun (mid stage.Surplus p) (no_stage refl) key.Surplus refl 0 most_charge (omega arith) (λ n. mid stage.Dark (paid p n)) (surplus_due p) text last after ended in
         let t = dark_tail (paid p b.number) b.rest b.ended in
         record {
           part = t.part;
           rest = t.rest;
-          whole = before_lines (number_line key.Surplus t.part.surplus) b.rest text (dark-lines t.part) t.rest (b.whole ∙ ap (λ n. number_line key.Surplus n ++ b.rest) (sym t.known.2)) t.whole;
+          whole = before_lines (number_line key.Surplus t.part.surplus) b.rest text (dark_lines t.part) t.rest (b.whole ∙ ap (λ n. number_line key.Surplus n ++ b.rest) (sym t.known.2)) t.whole;
           known = (t.known.0, t.known.1, omega (arith, b.high, t.known.2), t.known.3);
           ended = t.ended;
         }
 
-    hazard_lines_left : (life : ℕ) (text v hs rest : List ℕ) → text ≡ line_of key.Hazard v ++ rest → HazardsRead v life hs → Tail surplus-lines (λ q. (q.life ≡ life) × (q.hazards ≡ hs) × (q.surplus ≤ most_charge) × (q.dark ≤ most_dark)) rest last after → Tail hazard-lines (λ q. (q.life ≡ life) × HazardsWithin life q.hazards × (q.surplus ≤ most_charge) × (q.dark ≤ most_dark)) text last after
+    hazard_lines_left : (life : ℕ) (text v hs rest : List ℕ) → text ≡ line_of key.Hazard v ++ rest → HazardsRead v life hs → Tail surplus_lines (λ q. (q.life ≡ life) × (q.hazards ≡ hs) × (q.surplus ≤ most_charge) × (q.dark ≤ most_dark)) rest last after → Tail hazard_lines (λ q. (q.life ≡ life) × HazardsWithin life q.hazards × (q.surplus ≤ most_charge) × (q.dark ≤ most_dark)) text last after
     hazard_lines_left life text v hs rest whole read t =
         let is : v ≡ joined (map decimal (take t.part.life t.part.hazards)) = read.is ∙ (λ i. joined (map decimal (take (sym t.known.0 i) (sym t.known.1 i)))) in
         record {
           part = t.part;
           rest = t.rest;
-          whole = before_lines (list_line key.Hazard (take t.part.life t.part.hazards)) rest text (surplus-lines t.part) t.rest (whole ∙ ap (λ l. line_of key.Hazard l ++ rest) is) t.whole;
+          whole = before_lines (list_line key.Hazard (take t.part.life t.part.hazards)) rest text (surplus_lines t.part) t.rest (whole ∙ ap (λ l. line_of key.Hazard l ++ rest) is) t.whole;
           known = (t.known.0, subst (HazardsWithin life) (sym t.known.1) (read.within, read.used), t.known.2, t.known.3);
           ended = t.ended;
         }
 
-    hazard_tail : (life : ℕ) (text : List ℕ) → life ≤ most_life → Ended (mid stage.Hazard (aged life)) text last after → Tail hazard-lines (λ q. (q.life ≡ life) × HazardsWithin life q.hazards × (q.surplus ≤ most_charge) × (q.dark ≤ most_dark)) text last after
+    hazard_tail : (life : ℕ) (text : List ℕ) → life ≤ most_life → Ended (mid stage.Hazard (aged life)) text last after → Tail hazard_lines (λ q. (q.life ≡ life) × HazardsWithin life q.hazards × (q.surplus ≤ most_charge) × (q.dark ≤ most_dark)) text last after
     hazard_tail life text few ended =
-        let b = begun (mid stage.Hazard (aged life)) (no_stage refl) key.Hazard refl (λ v. with_list (hazards_of v life) (λ hs. mid stage.Surplus (hazarded (aged life) hs))) text last after (hazard-due (aged life)) ended in
+        let b = begun (mid stage.Hazard (aged life)) (no_stage refl) key.Hazard refl (λ v. with_list (hazards_of v life) (λ hs. mid stage.Surplus (hazarded (aged life) hs))) text last after (hazard_due (aged life)) ended in
         let came = list_came (hazards_of b.value life) (λ hs. mid stage.Surplus (hazarded (aged life) hs)) b.next b.step in
         hazard_lines_left life text b.value came.0 b.rest b.whole (hazards_read b.value life came.0 few came.1.0) (surplus_tail (hazarded (aged life) came.0) b.rest (subst (λ (e : ChainReader). Ended e b.rest last after) (sym came.1.1) b.ended))
 
-    life_tail : (text : List ℕ) → Ended (reader stage.Life h here before []) text last after → Tail life-lines Good text last after
+    life_tail : (text : List ℕ) → Ended (reader stage.Life h here before []) text last after → Tail life_lines Good text last after
     life_tail text ended =
-        let b = number-begun (reader stage.Life h here before []) (no_stage refl) key.Life refl 1 most_life (omega arith) (λ n. mid stage.Hazard (aged n)) life-due text last after ended in
+        let b = number_begun (reader stage.Life h here before []) (no_stage refl) key.Life refl 1 most_life (omega arith) (λ n. mid stage.Hazard (aged n)) life_due text last after ended in
         let t = hazard_tail b.number b.rest b.high b.ended in
         let hazards = subst (λ n. HazardsWithin n t.part.hazards) (sym t.known.0) t.known.1 in
         record {
           part = t.part;
           rest = t.rest;
-          whole = before_lines (number_line key.Life t.part.life) b.rest text (hazard-lines t.part) t.rest (b.whole ∙ ap (λ n. number_line key.Life n ++ b.rest) (sym t.known.0)) t.whole;
+          whole = before_lines (number_line key.Life t.part.life) b.rest text (hazard_lines t.part) t.rest (b.whole ∙ ap (λ n. number_line key.Life n ++ b.rest) (sym t.known.0)) t.whole;
           known = (((omega (arith, b.low, t.known.0), omega (arith, b.high, t.known.0)), (t.known.2, t.known.3), hazards.0), hazards.1);
           ended = t.ended;
         }
@@ -249,13 +249,13 @@ module _ (h : Head) (before : List Part) (room : length before < max_parts) wher
     -- it began with all lines of the part
     pub part_begun : (text : List ℕ) → Ended (reader stage.Part h (length before) before []) text last after → Tail (part_text here) Good text last after
     part_begun text ended =
-        let b = number-begun (reader stage.Part h (length before) before []) (no_stage refl) key.Part refl here here (omega arith) (λ n. reader stage.Life h n before []) part-due text last after ended in
+        let b = number_begun (reader stage.Part h (length before) before []) (no_stage refl) key.Part refl here here (omega arith) (λ n. reader stage.Life h n before []) part_due text last after ended in
         let number : b.number ≡ here = omega (arith, b.low, b.high) in
         let t = life_tail b.rest (subst (λ n. Ended (reader stage.Life h n before []) b.rest last after) number b.ended) in
         record {
           part = t.part;
           rest = t.rest;
-          whole = before_lines (number_line key.Part here) b.rest text (life-lines t.part) t.rest (b.whole ∙ ap (λ n. number_line key.Part n ++ b.rest) number) t.whole;
+          whole = before_lines (number_line key.Part here) b.rest text (life_lines t.part) t.rest (b.whole ∙ ap (λ n. number_line key.Part n ++ b.rest) number) t.whole;
           known = t.known;
           ended = t.ended;
         }

@@ -22,11 +22,11 @@ took_ok (Err y) old new (Ok u) q h = absurd h
 took_ok (Err y) old new (Err x) q h = absurd (q x refl)
 
 pub shorter : (d e : ChainReader) (text : List ℕ) → line_step d (line_at text) ≡ Ok e → length (rest_at text) < length text
-shorter d e text h = by-line (line_at text) refl h
+shorter d e text h = by_line (line_at text) refl h
   where
-    by-line : (l : Said) → line_at text ≡ l → line_step d l ≡ Ok e → length (rest_at text) < length text
-    by-line (pair k v) q h = omega (arith, rest_shorter text k v q)
-    by-line (fault n) q h = let z : ◌≡◌ {A = ℕ} 0 1 = cc in absurd (omega arith)
+    by_line : (l : Said) → line_at text ≡ l → line_step d l ≡ Ok e → length (rest_at text) < length text
+    by_line (pair k v) q h = omega (arith, rest_shorter text k v q)
+    by_line (fault n) q h = let z : ◌≡◌ {A = ℕ} 0 1 = cc in absurd (omega arith)
 
 pub one_taken : (d e : ChainReader) (l : Said) → line_step d l ≡ Ok e → taken l ≡ 1
 one_taken d e (pair k v) h = refl
@@ -34,14 +34,14 @@ one_taken d e (fault n) h = let z : ◌≡◌ {A = ℕ} 0 1 = cc in absurd (omeg
 
 -- a line that is read from here, by the names that a call gives to what it left
 module _ (d : ChainReader) (text : List ℕ) (place : ℕ) (going : d.stage ≡ stage.Done → ⊥) (rest : List ℕ) (count : ℕ) (left : rest ≡ rest_at text) (counted : count ≡ place + taken (line_at text)) where
-  pub refused-here : (rule : Rule) (line : ℕ) → line ≡ place + 1 → line_step d (line_at text) ≡ Err rule → CountedReads d text place (refused_at rule line rest count)
-  refused-here rule line at step = subst (CountedReads d text place) (λ i. refused_at rule (sym at i) (sym left i) (sym counted i)) (stop_at going step)
+  pub refused_here : (rule : Rule) (line : ℕ) → line ≡ place + 1 → line_step d (line_at text) ≡ Err rule → CountedReads d text place (refused_at rule line rest count)
+  refused_here rule line at step = subst (CountedReads d text place) (λ i. refused_at rule (sym at i) (sym left i) (sym counted i)) (stop_at going step)
 
-  count-more : (e : ChainReader) → line_step d (line_at text) ≡ Ok e → place + 1 ≡ count
-  count-more e step = sym (counted ∙ ap (λ n. place + n) (one_taken d e (line_at text) step))
+  count_more : (e : ChainReader) → line_step d (line_at text) ≡ Ok e → place + 1 ≡ count
+  count_more e step = sym (counted ∙ ap (λ n. place + n) (one_taken d e (line_at text) step))
 
   pub further : (e : ChainReader) (o : CountedEnding) → line_step d (line_at text) ≡ Ok e → CountedReads e rest count o → CountedReads d text place o
-  further e o step reads = more_at going step (subst (λ n. CountedReads e (rest_at text) n o) (sym (count-more e step)) (subst (λ t. CountedReads e t count o) left reads))
+  further e o step reads = more_at going step (subst (λ n. CountedReads e (rest_at text) n o) (sym (count_more e step)) (subst (λ t. CountedReads e t count o) left reads))
 
-  pub complete-here : (e : ChainReader) → line_step d (line_at text) ≡ Ok e → e.stage ≡ stage.Done → CountedReads d text place (complete_at e rest count) × (place + 1 ≡ count)
-  complete-here e step last = (further e (complete_at e rest count) step (done_at last), count-more e step)
+  pub complete_here : (e : ChainReader) → line_step d (line_at text) ≡ Ok e → e.stage ≡ stage.Done → CountedReads d text place (complete_at e rest count) × (place + 1 ≡ count)
+  complete_here e step last = (further e (complete_at e rest count) step (done_at last), count_more e step)

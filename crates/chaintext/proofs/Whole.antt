@@ -21,10 +21,10 @@ use Rattle.chaintext.specs.Steps.{no_arc}
 use Rattle.chaintext.specs.Writing.{ArcWithin, ArcsInOrder, Before, UsedUpTo, ZeroBeyond, arc_at, arcs_text, chain_text, parts_text}
 use Rattle.chaintext.proofs.AllParts.{PartsBegun, parts_begun, parts_go}
 use Rattle.chaintext.proofs.Arcs.{ArcsBegun, Orderly, arcs_begun, arcs_go, orderly_none}
-use Rattle.chaintext.proofs.Heads.{GoodHead, HeadTail, head-begun, head-goes, head_lines}
+use Rattle.chaintext.proofs.Heads.{GoodHead, HeadTail, head_begun, head_goes, head_lines}
 use Rattle.chaintext.proofs.Lines.{Ends}
 use Rattle.chaintext.proofs.Parts.{Good, reader}
-use Rattle.chaintext.proofs.Tables.{getD-used, laid, laid-front, laid-used, used-laid}
+use Rattle.chaintext.proofs.Tables.{get_d_used, laid, laid_front, laid_used, used_laid}
 
 -- the text begins with that of these numbers, all in range, and this follows
 pub record Wrote (text : List ℕ) (n : ChainNumbers) (after : List ℕ) : Type 0 where
@@ -60,123 +60,123 @@ module _ (h : Head) (ps : List Part) (arcs : List Arc) (r : ChainRead h ps arcs)
   abbrev n : ChainNumbers
   n = numbers_of (reader stage.Done h h.count ps arcs)
 
-  parts-front : take h.count (laid max_parts new_part ps) ≡ ps
-  parts-front = laid-front max_parts new_part ps h.count r.counted
+  parts_front : take h.count (laid max_parts new_part ps) ≡ ps
+  parts_front = laid_front max_parts new_part ps h.count r.counted
 
-  arcs-front : arcs_of n ≡ arcs
-  arcs-front = laid-front most_arcs no_arc arcs (length arcs) refl
+  arcs_front : arcs_of n ≡ arcs
+  arcs_front = laid_front most_arcs no_arc arcs (length arcs) refl
 
-  chain-text-is : (after : List ℕ) → chain_text n ++ after ≡ text_of h ps arcs after
-  chain-text-is after = ap (λ t. t ++ after) (λ i. line_of key.Kind (codes "chain") ++ (number_line key.Parts h.count ++ (number_line key.Threshold h.threshold ++ (number_line key.Setup h.setup ++ (number_line key.Alarm h.alarm ++ (parts_text 1 (parts-front i) ++ (arcs_text (arcs-front i) ++ line_of key.End (codes "plant")))))))) ∙ regroup (line_of key.Kind (codes "chain")) (number_line key.Parts h.count) (number_line key.Threshold h.threshold) (number_line key.Setup h.setup) (number_line key.Alarm h.alarm) (parts_text 1 ps) (arcs_text arcs) (line_of key.End (codes "plant")) after
+  chain_text_is : (after : List ℕ) → chain_text n ++ after ≡ text_of h ps arcs after
+  chain_text_is after = ap (λ t. t ++ after) (λ i. line_of key.Kind (codes "chain") ++ (number_line key.Parts h.count ++ (number_line key.Threshold h.threshold ++ (number_line key.Setup h.setup ++ (number_line key.Alarm h.alarm ++ (parts_text 1 (parts_front i) ++ (arcs_text (arcs_front i) ++ line_of key.End (codes "plant")))))))) ∙ regroup (line_of key.Kind (codes "chain")) (number_line key.Parts h.count) (number_line key.Threshold h.threshold) (number_line key.Setup h.setup) (number_line key.Alarm h.alarm) (parts_text 1 ps) (arcs_text arcs) (line_of key.End (codes "plant")) after
 
-  part-good : (i : ℕ) → 1 ≤ i → i ≤ h.count → Good (part_of n i)
-  part-good i low high =
+  part_good : (i : ℕ) → 1 ≤ i → i ≤ h.count → Good (part_of n i)
+  part_good i low high =
       let inside : i - 1 < length ps = omega (arith, r.counted) in
-      subst Good (sym (getD-used max_parts new_part ps (i - 1) blank inside)) (All-get_or Good ps (i - 1) blank inside r.fit)
+      subst Good (sym (get_d_used max_parts new_part ps (i - 1) blank inside)) (All-get_or Good ps (i - 1) blank inside r.fit)
 
-  read-lawful : LawfulNumbers n
-  read-lawful = record {
+  read_lawful : LawfulNumbers n
+  read_lawful = record {
     terms = ((r.good.some, r.good.count), r.good.threshold, (r.good.setup, r.good.alarm), r.fits);
-    parts = λ i low high. (part-good i low high).0;
-    arcs = subst (NoneDearer most_charge) (sym arcs-front) (dearer_none most_charge arcs (All-from_get_or (λ a. a.cents ≤ most_charge) arcs no_arc (λ k l. (r.orderly.within k l).1)));
+    parts = λ i low high. (part_good i low high).0;
+    arcs = subst (NoneDearer most_charge) (sym arcs_front) (dearer_none most_charge arcs (All-from_get_or (λ a. a.cents ≤ most_charge) arcs no_arc (λ k l. (r.orderly.within k l).1)));
   }
 
-  arc-is : (k : ℕ) → k < length arcs → get_or arcs k no_arc ≡ get_or (laid most_arcs no_arc arcs) k no_arc
-  arc-is k l = sym (getD-used most_arcs no_arc arcs k no_arc l)
+  arc_is : (k : ℕ) → k < length arcs → get_or arcs k no_arc ≡ get_or (laid most_arcs no_arc arcs) k no_arc
+  arc_is k l = sym (get_d_used most_arcs no_arc arcs k no_arc l)
 
-  read-order : ArcsInOrder n
-  read-order = record {
-    within = λ k l. subst (ArcWithin h.count) (arc-is k l) (r.orderly.within k l).0;
-    rising = λ k l. let here : k < length arcs = omega arith in subst (λ a. Before a (arc_at n (k + 1))) (arc-is k here) (subst (Before (get_or arcs k no_arc)) (arc-is (k + 1) l) (r.orderly.rising k l));
+  read_order : ArcsInOrder n
+  read_order = record {
+    within = λ k l. subst (ArcWithin h.count) (arc_is k l) (r.orderly.within k l).0;
+    rising = λ k l. let here : k < length arcs = omega arith in subst (λ a. Before a (arc_at n (k + 1))) (arc_is k here) (subst (Before (get_or arcs k no_arc)) (arc_is (k + 1) l) (r.orderly.rising k l));
   }
 
-  read-zero : ZeroBeyond n
-  read-zero = record {
-    parts = subst (λ k. UsedUpTo k max_parts new_part (laid max_parts new_part ps)) r.counted (laid-used max_parts new_part ps (omega (arith, r.counted, r.good.count)));
-    hazards = λ i low high. (part-good i low high).1;
-    arcs = laid-used most_arcs no_arc arcs r.fits;
+  read_zero : ZeroBeyond n
+  read_zero = record {
+    parts = subst (λ k. UsedUpTo k max_parts new_part (laid max_parts new_part ps)) r.counted (laid_used max_parts new_part ps (omega (arith, r.counted, r.good.count)));
+    hazards = λ i low high. (part_good i low high).1;
+    arcs = laid_used most_arcs no_arc arcs r.fits;
   }
 
-  read-wrote : (after : List ℕ) → Wrote (text_of h ps arcs after) n after
-  read-wrote after = record { whole = sym (chain-text-is after); lawful = read-lawful; arcs = read-order; zero = read-zero }
+  read_wrote : (after : List ℕ) → Wrote (text_of h ps arcs after) n after
+  read_wrote after = record { whole = sym (chain_text_is after); lawful = read_lawful; arcs = read_order; zero = read_zero }
 
 -- from the lines that were read to the whole
 module _ (last : ChainReader) (after : List ℕ) where
-  whole-wrote : (text : List ℕ) (h : Head) (ps : List Part) (arcs : List Arc) → ChainRead h ps arcs → text ≡ text_of h ps arcs after → last ≡ reader stage.Done h h.count ps arcs → Wrote text (numbers_of last) after
-  whole-wrote text h ps arcs r whole is =
-      subst (λ t. Wrote t (numbers_of last) after) (sym whole) (subst (λ (d : ChainReader). Wrote (text_of h ps arcs after) (numbers_of d) after) (sym is) (read-wrote h ps arcs r after))
+  whole_wrote : (text : List ℕ) (h : Head) (ps : List Part) (arcs : List Arc) → ChainRead h ps arcs → text ≡ text_of h ps arcs after → last ≡ reader stage.Done h h.count ps arcs → Wrote text (numbers_of last) after
+  whole_wrote text h ps arcs r whole is =
+      subst (λ t. Wrote t (numbers_of last) after) (sym whole) (subst (λ (d : ChainReader). Wrote (text_of h ps arcs after) (numbers_of d) after) (sym is) (read_wrote h ps arcs r after))
 
-  arcs-wrote : (text rest : List ℕ) (h : Head) (good : GoodHead h) (ps : List Part) → length ps ≡ h.count → All Good ps → text ≡ head_lines h ++ (parts_text 1 ps ++ rest) → ArcsBegun h good.count h.count ps last after [] rest → Wrote text (numbers_of last) after
-  arcs-wrote text rest h good ps counted fit whole a =
-      whole-wrote text h ps a.more (record { good = good; counted = counted; fit = fit; orderly = a.orderly; fits = a.fits }) (whole ∙ ap (λ t. head_lines h ++ (parts_text 1 ps ++ t)) a.whole) a.is
+  arcs_wrote : (text rest : List ℕ) (h : Head) (good : GoodHead h) (ps : List Part) → length ps ≡ h.count → All Good ps → text ≡ head_lines h ++ (parts_text 1 ps ++ rest) → ArcsBegun h good.count h.count ps last after [] rest → Wrote text (numbers_of last) after
+  arcs_wrote text rest h good ps counted fit whole a =
+      whole_wrote text h ps a.more (record { good = good; counted = counted; fit = fit; orderly = a.orderly; fits = a.fits }) (whole ∙ ap (λ t. head_lines h ++ (parts_text 1 ps ++ t)) a.whole) a.is
 
-  parts-wrote : (text rest : List ℕ) (h : Head) (good : GoodHead h) → text ≡ head_lines h ++ rest → PartsBegun h good.count last after [] (suc (h.count - 1)) rest → Wrote text (numbers_of last) after
-  parts-wrote text rest h good whole p =
+  parts_wrote : (text rest : List ℕ) (h : Head) (good : GoodHead h) → text ≡ head_lines h ++ rest → PartsBegun h good.count last after [] (suc (h.count - 1)) rest → Wrote text (numbers_of last) after
+  parts_wrote text rest h good whole p =
       let counted : length p.parts ≡ h.count = omega (arith, p.long, good.some) in
-      arcs-wrote text p.rest h good p.parts counted p.good (whole ∙ ap (λ t. head_lines h ++ t) p.whole) (arcs_begun h good.count h.count p.parts last after most_arcs [] p.rest refl (orderly_none h.count) p.ended)
+      arcs_wrote text p.rest h good p.parts counted p.good (whole ∙ ap (λ t. head_lines h ++ t) p.whole) (arcs_begun h good.count h.count p.parts last after most_arcs [] p.rest refl (orderly_none h.count) p.ended)
 
-  head-wrote : (text : List ℕ) → HeadTail head_lines GoodHead text last after → Wrote text (numbers_of last) after
-  head-wrote text t = parts-wrote text t.rest t.head t.known t.whole (parts_begun t.head t.known.count last after (t.head.count - 1) [] t.rest (omega (arith, t.known.some)) t.ended)
+  head_wrote : (text : List ℕ) → HeadTail head_lines GoodHead text last after → Wrote text (numbers_of last) after
+  head_wrote text t = parts_wrote text t.rest t.head t.known t.whole (parts_begun t.head t.known.count last after (t.head.count - 1) [] t.rest (omega (arith, t.known.some)) t.ended)
 
 -- a text that was read up to the end begins with that of the numbers that were read
 pub complete_wrote : (text : List ℕ) (place : ℕ) (d : ChainReader) (rest : List ℕ) (count : ℕ) → CountedReads fresh text place (complete_at d rest count) → Wrote text (numbers_of d) rest
-complete_wrote text place d rest count reads = head-wrote d rest text (head-begun d rest text (place, (count, reads)))
+complete_wrote text place d rest count reads = head_wrote d rest text (head_begun d rest text (place, (count, reads)))
 
 -- and such a text is read up to the end
 module _ (n : ChainNumbers) (lawful : LawfulNumbers n) (order : ArcsInOrder n) (zeros : ZeroBeyond n) where
   abbrev head_of : Head
   head_of = record { count = n.count; threshold = n.threshold; setup = n.setup; alarm = n.alarm }
 
-  abbrev parts-of : List Part
-  parts-of = take n.count n.parts
+  abbrev parts_of : List Part
+  parts_of = take n.count n.parts
 
   abbrev last_of : ChainReader
-  last_of = reader stage.Done head_of n.count parts-of (arcs_of n)
+  last_of = reader stage.Done head_of n.count parts_of (arcs_of n)
 
-  parts-used : (n.parts ≡ laid max_parts new_part parts-of) × (length parts-of ≡ n.count)
-  parts-used = used-laid max_parts new_part n.parts n.count lawful.terms.0.1 zeros.parts
+  parts_used : (n.parts ≡ laid max_parts new_part parts_of) × (length parts_of ≡ n.count)
+  parts_used = used_laid max_parts new_part n.parts n.count lawful.terms.0.1 zeros.parts
 
-  arcs-used : (n.arcs ≡ laid most_arcs no_arc (arcs_of n)) × (length (arcs_of n) ≡ n.arc_count)
-  arcs-used = used-laid most_arcs no_arc n.arcs n.arc_count lawful.terms.3 zeros.arcs
+  arcs_used : (n.arcs ≡ laid most_arcs no_arc (arcs_of n)) × (length (arcs_of n) ≡ n.arc_count)
+  arcs_used = used_laid most_arcs no_arc n.arcs n.arc_count lawful.terms.3 zeros.arcs
 
-  numbers-back : numbers_of last_of ≡ n
-  numbers-back = (λ i. record { count = n.count; threshold = n.threshold; setup = n.setup; alarm = n.alarm; parts = sym parts-used.0 i; arc_count = arcs-used.1 i; arcs = sym arcs-used.0 i })
+  numbers_back : numbers_of last_of ≡ n
+  numbers_back = (λ i. record { count = n.count; threshold = n.threshold; setup = n.setup; alarm = n.alarm; parts = sym parts_used.0 i; arc_count = arcs_used.1 i; arcs = sym arcs_used.0 i })
 
-  parts-good : All Good parts-of
-  parts-good = All-from_get_or Good parts-of blank good
+  parts_good : All Good parts_of
+  parts_good = All-from_get_or Good parts_of blank good
     where
-      good : (k : ℕ) → k < length parts-of → Good (get_or parts-of k blank)
+      good : (k : ℕ) → k < length parts_of → Good (get_or parts_of k blank)
       good k l =
-          let low : k < n.count = omega (arith, parts-used.1) in
+          let low : k < n.count = omega (arith, parts_used.1) in
           let back : (k + 1) - 1 ≡ k = omega arith in
           subst Good (ap (λ j. get_or n.parts j blank) back ∙ sym (get_or-take n.count n.parts k blank low)) (lawful.parts (k + 1) (omega arith) (omega arith), zeros.hazards (k + 1) (omega arith) (omega arith))
 
-  arcs-good : Orderly n.count (arcs_of n)
-  arcs-good = record {
-    within = λ k l. (subst (ArcWithin n.count) (arc-back k l) (order.within k (omega (arith, arcs-used.1))), All-get_or (λ a. a.cents ≤ most_charge) (arcs_of n) k no_arc l (none_dearer most_charge (arcs_of n) lawful.arcs));
-    rising = λ k l. let here : k < length (arcs_of n) = omega arith in subst (λ a. Before a (get_or (arcs_of n) (k + 1) no_arc)) (arc-back k here) (subst (Before (arc_at n k)) (arc-back (k + 1) l) (order.rising k (omega (arith, arcs-used.1))));
+  arcs_good : Orderly n.count (arcs_of n)
+  arcs_good = record {
+    within = λ k l. (subst (ArcWithin n.count) (arc_back k l) (order.within k (omega (arith, arcs_used.1))), All-get_or (λ a. a.cents ≤ most_charge) (arcs_of n) k no_arc l (none_dearer most_charge (arcs_of n) lawful.arcs));
+    rising = λ k l. let here : k < length (arcs_of n) = omega arith in subst (λ a. Before a (get_or (arcs_of n) (k + 1) no_arc)) (arc_back k here) (subst (Before (arc_at n k)) (arc_back (k + 1) l) (order.rising k (omega (arith, arcs_used.1))));
   }
     where
-      arc-back : (k : ℕ) → k < length (arcs_of n) → arc_at n k ≡ get_or (arcs_of n) k no_arc
-      arc-back k l = sym (get_or-take n.arc_count n.arcs k no_arc (omega (arith, arcs-used.1)))
+      arc_back : (k : ℕ) → k < length (arcs_of n) → arc_at n k ≡ get_or (arcs_of n) k no_arc
+      arc_back k l = sym (get_or-take n.arc_count n.arcs k no_arc (omega (arith, arcs_used.1)))
 
-  good-head : GoodHead head_of
-  good-head = record { some = lawful.terms.0.0; count = lawful.terms.0.1; threshold = lawful.terms.1; setup = lawful.terms.2.0; alarm = lawful.terms.2.1 }
+  good_head : GoodHead head_of
+  good_head = record { some = lawful.terms.0.0; count = lawful.terms.0.1; threshold = lawful.terms.1; setup = lawful.terms.2.0; alarm = lawful.terms.2.1 }
 
   -- the arcs, then the parts before them, and then the head before these
-  arcs-read : (after : List ℕ) → Ends (reader stage.Arc head_of n.count parts-of []) (arcs_text (arcs_of n) ++ (line_of key.End (codes "plant") ++ after)) last_of after
-  arcs-read after = arcs_go head_of lawful.terms.0.1 n.count parts-of (arcs_of n) [] after arcs-good (omega (arith, arcs-used.1, lawful.terms.3))
+  arcs_read : (after : List ℕ) → Ends (reader stage.Arc head_of n.count parts_of []) (arcs_text (arcs_of n) ++ (line_of key.End (codes "plant") ++ after)) last_of after
+  arcs_read after = arcs_go head_of lawful.terms.0.1 n.count parts_of (arcs_of n) [] after arcs_good (omega (arith, arcs_used.1, lawful.terms.3))
 
-  parts-read : (after text : List ℕ) (ps : List Part) → length ps ≡ n.count → All Good ps → Ends (reader stage.Arc head_of n.count ps []) text last_of after → Ends (reader stage.Part head_of 0 [] []) (parts_text 1 ps ++ text) last_of after
-  parts-read after text [] long good ends = absurd (omega (arith, lawful.terms.0.0))
-  parts-read after text (p ∷ ps) long good ends = parts_go head_of lawful.terms.0.1 last_of after p ps [] text (omega arith) good ends
+  parts_read : (after text : List ℕ) (ps : List Part) → length ps ≡ n.count → All Good ps → Ends (reader stage.Arc head_of n.count ps []) text last_of after → Ends (reader stage.Part head_of 0 [] []) (parts_text 1 ps ++ text) last_of after
+  parts_read after text [] long good ends = absurd (omega (arith, lawful.terms.0.0))
+  parts_read after text (p ∷ ps) long good ends = parts_go head_of lawful.terms.0.1 last_of after p ps [] text (omega arith) good ends
 
-  text-back : (after : List ℕ) → chain_text n ++ after ≡ text_of head_of parts-of (arcs_of n) after
-  text-back after = regroup (line_of key.Kind (codes "chain")) (number_line key.Parts n.count) (number_line key.Threshold n.threshold) (number_line key.Setup n.setup) (number_line key.Alarm n.alarm) (parts_text 1 parts-of) (arcs_text (arcs_of n)) (line_of key.End (codes "plant")) after
+  text_back : (after : List ℕ) → chain_text n ++ after ≡ text_of head_of parts_of (arcs_of n) after
+  text_back after = regroup (line_of key.Kind (codes "chain")) (number_line key.Parts n.count) (number_line key.Threshold n.threshold) (number_line key.Setup n.setup) (number_line key.Alarm n.alarm) (parts_text 1 parts_of) (arcs_text (arcs_of n)) (line_of key.End (codes "plant")) after
 
-  pub wrote-complete : (after : List ℕ) → Ends fresh (chain_text n ++ after) last_of after
-  wrote-complete after =
-      subst (λ t. Ends fresh t last_of after) (sym (text-back after)) (head-goes last_of after head_of (parts_text 1 parts-of ++ (arcs_text (arcs_of n) ++ (line_of key.End (codes "plant") ++ after))) good-head (parts-read after (arcs_text (arcs_of n) ++ (line_of key.End (codes "plant") ++ after)) parts-of parts-used.1 parts-good (arcs-read after)))
+  pub wrote_complete : (after : List ℕ) → Ends fresh (chain_text n ++ after) last_of after
+  wrote_complete after =
+      subst (λ t. Ends fresh t last_of after) (sym (text_back after)) (head_goes last_of after head_of (parts_text 1 parts_of ++ (arcs_text (arcs_of n) ++ (line_of key.End (codes "plant") ++ after))) good_head (parts_read after (arcs_text (arcs_of n) ++ (line_of key.End (codes "plant") ++ after)) parts_of parts_used.1 parts_good (arcs_read after)))
 
 -- the reader with these numbers, which reading such a text comes to
 pub record Completed (text : List ℕ) (n : ChainNumbers) (after : List ℕ) (place : ℕ) : Type 0 where
@@ -187,10 +187,10 @@ pub record Completed (text : List ℕ) (n : ChainNumbers) (after : List ℕ) (pl
 
 pub completed : (text : List ℕ) (n : ChainNumbers) (after : List ℕ) (place : ℕ) → Wrote text n after → Completed text n after place
 completed text n after place w =
-    let ends = wrote-complete n w.lawful w.arcs w.zero after place in
+    let ends = wrote_complete n w.lawful w.arcs w.zero after place in
     record {
       reader = last_of n w.lawful w.arcs w.zero;
       count = ends.0;
       reads = subst (λ t. CountedReads fresh t place (complete_at (last_of n w.lawful w.arcs w.zero) after ends.0)) (sym w.whole) ends.1;
-      numbers = numbers-back n w.lawful w.arcs w.zero;
+      numbers = numbers_back n w.lawful w.arcs w.zero;
     }

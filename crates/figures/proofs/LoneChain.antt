@@ -9,7 +9,7 @@ use Rattle.chain.specs.States.{failed_in}
 use Rattle.figures.specs.OnePart.{lone_chain, lone_part}
 use Rattle.std.proofs.lemmas.Nat.{mod_below}
 use Rattle.std.proofs.lemmas.List.{get_or-replicate}
-use Rattle.workorder.proofs.WorkOrders.{order-ind, order-next, order-none, table-only}
+use Rattle.workorder.proofs.WorkOrders.{order_ind, order_next, order_none, table_only}
 use Rattle.workorder.specs.Figures.{arc}
 use Rattle.workorder.specs.Orders.{Holds, Least, LeastTable, NoneDearer, OrderFor, portfolios}
 use Rattle.workorder.specs.Steps.{Leads, without}
@@ -28,7 +28,7 @@ abbrev Possible : ℕ → ℕ → Type 0
 Possible x c = ((x ≡ 0) × (c ≡ 0)) ⊎ ((x ≡ 1) × (c ≡ 200))
 
 possible : (x c : ℕ) → OrderFor arcs x c → Possible x c
-possible = order-ind arcs Possible (inl (refl, refl)) step
+possible = order_ind arcs Possible (inl (refl, refl)) step
   where
     step : (x c : ℕ) (a : Arc) → Holds x a.to → In a arcs → Leads (without x a.to) a.to a → OrderFor arcs (without x a.to) c → Possible (without x a.to) c → Possible x (c + a.cents)
     step x c a held m leads o before =
@@ -39,10 +39,10 @@ possible = order-ind arcs Possible (inl (refl, refl)) step
         elim rest [ inl h ↦ inr (omega (arith, odd.1), omega arith) | inr h ↦ absurd (omega (arith, odd.1)) ]
 
 one_order : OrderFor arcs 1 200
-one_order = order-next arcs 1 0 (arc 0 1 200) (omega arith, refl) (order-none arcs) (In.head refl) (refl, inl refl)
+one_order = order_next arcs 1 0 (arc 0 1 200) (omega arith, refl) (order_none arcs) (In.head refl) (refl, inl refl)
 
 least_none : Least arcs 0 (Some 0)
-least_none = (∣ order-none arcs ∣₁, λ d o. omega arith)
+least_none = (∣ order_none arcs ∣₁, λ d o. omega arith)
 
 least_one : Least arcs 1 (Some 200)
 least_one = (∣ one_order ∣₁, λ d o. elim (possible 1 d o) [ inl h ↦ absurd (omega arith) | inr h ↦ omega arith ])
@@ -67,7 +67,7 @@ shape (a ∷ b ∷ rest) long none one = (rest, cc)
 
 -- a table of least work orders begins with these two
 pub table_shape : (table : List (Option ℕ)) → LeastTable arcs table → (rest : List (Option ℕ)) × (Some 0 ∷ Some 200 ∷ rest ≡ table)
-table_shape table right = shape table right.long (table-only arcs table right 0 (Some 0) (lit≤ tt) least_none) (table-only arcs table right 1 (Some 200) (lit≤ tt) least_one)
+table_shape table right = shape table right.long (table_only arcs table right 0 (Some 0) (lit≤ tt) least_none) (table_only arcs table right 1 (Some 200) (lit≤ tt) least_one)
 
 hazards_fit : (age : ℕ) → age < 2 → get_or lone_part.hazards age 0 ≤ 10000
 hazards_fit zero l = lit≤ tt

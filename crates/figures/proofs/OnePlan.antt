@@ -8,7 +8,7 @@ use Rattle.interface.specs.Rows.{Row}
 use Rattle.interface.specs.Tariffs.{Scale}
 use Rattle.lookahead.specs.Best.{Chosen, Pick}
 use Rattle.lookahead.specs.Gains.{gain}
-use Rattle.planner.proofs.Unique.{swept-one}
+use Rattle.planner.proofs.Unique.{swept_one}
 use Rattle.planner.specs.Sweeps.{Chooses}
 use Rattle.std.proofs.lemmas.List.{ext_get_or}
 use Rattle.std.proofs.lemmas.Bool.{both_ways, cases_order}
@@ -22,13 +22,13 @@ chosen_at good f n p q a b = elim (cases_order p.at q.at) [
 ]
 
 module _ (m : Model) (t : Scale) (vs : List Row) where
-  chooses-one : (ps qs : List ℕ) → Chooses m t vs ps → Chooses m t vs qs → ps ≡ qs
-  chooses-one ps qs a b = ext_get_or 0 ps qs (a.long ∙ sym b.long) (λ s l.
+  chooses_one : (ps qs : List ℕ) → Chooses m t vs ps → Chooses m t vs qs → ps ≡ qs
+  chooses_one ps qs a b = ext_get_or 0 ps qs (a.long ∙ sym b.long) (λ s l.
       let inside : s < m.states = omega (arith, a.long) in
       chosen_at _ _ m.portfolios _ _ (a.each s inside).1 (b.each s inside).1)
 
-  lowest-one : (u v : Row) → Lowest m t vs u → Lowest m t vs v → u ≡ v
-  lowest-one u v a b = elim (cases_order a.state b.state) [
+  lowest_one : (u v : Row) → Lowest m t vs u → Lowest m t vs v → u ≡ v
+  lowest_one u v a b = elim (cases_order a.state b.state) [
     | inl same ↦ elim (cases_order a.portfolio b.portfolio) [
       | inl equal ↦ a.there ∙ ap (λ s. gain m t vs s a.portfolio) same ∙ ap (gain m t vs b.state) equal ∙ sym b.there
       | inr (inl before) ↦ absurd (never u v a b (inr (same, before)))
@@ -44,8 +44,8 @@ module _ (m : Model) (t : Scale) (vs : List Row) where
           both_ways (t.at_most (gain m t vs a.state a.portfolio) v) (b.first a.state a.portfolio a.feasible before)
           (subst (λ w. t.at_most w v ≡ true) a.there (subst (λ w. t.at_most u w ≡ true) (sym b.there) (a.least b.state b.portfolio b.feasible)))
 
-  highest-one : (ps : List ℕ) (u v : Row) → Highest m t vs ps u → Highest m t vs ps v → u ≡ v
-  highest-one ps u v a b = elim (cases_order a.state b.state) [
+  highest_one : (ps : List ℕ) (u v : Row) → Highest m t vs ps u → Highest m t vs ps v → u ≡ v
+  highest_one ps u v a b = elim (cases_order a.state b.state) [
     | inl same ↦ a.there ∙ ap (λ s. gain m t vs s (named ps s)) same ∙ sym b.there
     | inr (inl before) ↦ absurd (never u v a b before)
     | inr (inr after) ↦ absurd (never v u b a after)
@@ -58,13 +58,13 @@ module _ (m : Model) (t : Scale) (vs : List Row) where
 
 pub plan_one : (m : Model) (t : Scale) (k : ℕ) (p q : Plan) → PlanAfter m t k p → PlanAfter m t k q → q ≡ p
 plan_one m t k p q a b =
-    let values = swept-one m t b.swept a.swept in
+    let values = swept_one m t b.swept a.swept in
     let chosen = subst (λ vs. Chooses m t vs q.policy) values b.chosen in
     let lowest = subst (λ vs. Lowest m t vs q.low) values b.lowest in
     let highest = subst (λ vs. Highest m t vs q.policy q.high) values b.highest in
-    let policy = chooses-one m t p.values q.policy p.policy chosen a.chosen in
-    let low = lowest-one m t p.values q.low p.low lowest a.lowest in
-    let high = highest-one m t p.values p.policy q.high p.high (subst (λ ps. Highest m t p.values ps q.high) policy highest) a.highest in
+    let policy = chooses_one m t p.values q.policy p.policy chosen a.chosen in
+    let low = lowest_one m t p.values q.low p.low lowest a.lowest in
+    let high = highest_one m t p.values p.policy q.high p.high (subst (λ ps. Highest m t p.values ps q.high) policy highest) a.highest in
     ap (λ vs. record { values = vs; policy = q.policy; low = q.low; high = q.high }) values
     ∙ ap (λ ps. record { values = p.values; policy = ps; low = q.low; high = q.high }) policy
     ∙ ap (λ u. record { values = p.values; policy = p.policy; low = u; high = q.high }) low

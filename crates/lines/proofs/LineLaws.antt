@@ -27,25 +27,25 @@ free_printable bs h = All-weaker Printable (λ x. x ≡ line_end → ⊥) (λ x 
 
 -- from the parts of a line to what is read
 module _ (text k v rest : List ℕ) (b : Begins text k v rest) where
-  line-bytes : AllByRecursion Printable (k ++ (equals_sign ∷ v))
-  line-bytes = All-append Printable k (equals_sign ∷ v) b.key ((omega arith, omega arith), b.value)
+  line_bytes : AllByRecursion Printable (k ++ (equals_sign ∷ v))
+  line_bytes = All-append Printable k (equals_sign ∷ v) b.key ((omega arith, omega arith), b.value)
 
   line_cut : cut_at line_end text ≡ Some (k ++ (equals_sign ∷ v), rest)
-  line_cut = ap (cut_at line_end) (b.whole ∙ sym (append_assoc k (equals_sign ∷ v) (line_end ∷ rest))) ∙ cut_some line_end _ rest (free_printable _ line-bytes)
+  line_cut = ap (cut_at line_end) (b.whole ∙ sym (append_assoc k (equals_sign ∷ v) (line_end ∷ rest))) ∙ cut_some line_end _ rest (free_printable _ line_bytes)
 
-  line-fits : (leb (length (k ++ (equals_sign ∷ v))) longest_line && all_printable (k ++ (equals_sign ∷ v))) ≡ true
-  line-fits =
+  line_fits : (leb (length (k ++ (equals_sign ∷ v))) longest_line && all_printable (k ++ (equals_sign ∷ v))) ≡ true
+  line_fits =
       let short : length (k ++ (equals_sign ∷ v)) ≤ longest_line = omega (arith, length-append k (equals_sign ∷ v), b.short) in
-      and_from _ _ (le-leb _ _ short) ((all_decides _).1 line-bytes)
+      and_from _ _ (le-leb _ _ short) ((all_decides _).1 line_bytes)
 
-  line-said : line_of (k ++ (equals_sign ∷ v)) ≡ pair k v
-  line-said = cond-true _ _ _ line-fits ∙ ap keyed (cut_some equals_sign k v b.first) ∙ cond-false _ _ _ (ne_eqb (length k) 0 (λ e. omega (arith, b.named)))
+  line_said : line_of (k ++ (equals_sign ∷ v)) ≡ pair k v
+  line_said = cond-true _ _ _ line_fits ∙ ap keyed (cut_some equals_sign k v b.first) ∙ cond-false _ _ _ (ne_eqb (length k) 0 (λ e. omega (arith, b.named)))
 
-  pub begins-line : line_at text ≡ pair k v
-  begins-line = ap line_before line_cut ∙ line-said
+  pub begins_line : line_at text ≡ pair k v
+  begins_line = ap line_before line_cut ∙ line_said
 
-  pub begins-rest : rest_at text ≡ rest
-  begins-rest = ap (λ s. left_by s text) begins-line ∙ ap (λ c. behind c text) line_cut
+  pub begins_rest : rest_at text ≡ rest
+  begins_rest = ap (λ s. left_by s text) begins_line ∙ ap (λ c. behind c text) line_cut
 
 -- from what is read to the parts of a line
 record Parts (l k v : List ℕ) : Type 0 where
@@ -117,23 +117,23 @@ apart : {P : Type 0} (s : Said) → s ≡ fault ends_early → s ≡ fault bad_l
 apart s p q = let z : ◌≡◌ {A = ℕ} ends_early bad_line = cc in absurd (omega arith)
 
 module _ (text : List ℕ) where
-  early-if : Free line_end text → line_at text ≡ fault ends_early
-  early-if h = ap line_before (cut_none line_end text h)
+  early_if : Free line_end text → line_at text ≡ fault ends_early
+  early_if h = ap line_before (cut_none line_end text h)
 
-  early-only : (c : Option (List ℕ × List ℕ)) → CutFirst line_end text c → line_before c ≡ fault ends_early → Free line_end text
-  early-only None h e = h
-  early-only (Some c) h e = ⊎_elim (λ bad. apart (line_of c.0) e bad) (λ p. never ends_early p.0 p.1.0 (sym e ∙ p.1.1)) (ended c.0)
+  early_only : (c : Option (List ℕ × List ℕ)) → CutFirst line_end text c → line_before c ≡ fault ends_early → Free line_end text
+  early_only None h e = h
+  early_only (Some c) h e = ⊎_elim (λ bad. apart (line_of c.0) e bad) (λ p. never ends_early p.0 p.1.0 (sym e ∙ p.1.1)) (ended c.0)
 
-  bad-if : (c : Option (List ℕ × List ℕ)) → CutFirst line_end text c → (Free line_end text → ⊥) → ((k v : List ℕ) → line_before c ≡ pair k v → ⊥) → line_before c ≡ fault bad_line
-  bad-if None h some none = absurd (some h)
-  bad-if (Some c) h some none = ⊎_elim (λ bad. bad) (λ p. absurd (none p.0 p.1.0 p.1.1)) (ended c.0)
+  bad_if : (c : Option (List ℕ × List ℕ)) → CutFirst line_end text c → (Free line_end text → ⊥) → ((k v : List ℕ) → line_before c ≡ pair k v → ⊥) → line_before c ≡ fault bad_line
+  bad_if None h some none = absurd (some h)
+  bad_if (Some c) h some none = ⊎_elim (λ bad. bad) (λ p. absurd (none p.0 p.1.0 p.1.1)) (ended c.0)
 
   -- the first line of each text is as the relation says
-  pub line-law : ReadsAs text (line_at text) (rest_at text)
-  line-law = record {
-    line = λ k v after. ((λ h. subst (Begins text k v) h.1 (line_begins text k v h.0)), λ b. (begins-line text k v after b, begins-rest text k v after b));
-    early = (early-only (cut_at line_end text) (cut_law line_end text), early-if);
-    bad = ((λ e. ((λ h. apart (line_at text) (early-if h) e), λ k v after b. never bad_line k v (sym e ∙ begins-line text k v after b))), λ h. bad-if (cut_at line_end text) (cut_law line_end text) h.0 (λ k v e. h.1 k v (rest_at text) (line_begins text k v e)));
+  pub line_law : ReadsAs text (line_at text) (rest_at text)
+  line_law = record {
+    line = λ k v after. ((λ h. subst (Begins text k v) h.1 (line_begins text k v h.0)), λ b. (begins_line text k v after b, begins_rest text k v after b));
+    early = (early_only (cut_at line_end text) (cut_law line_end text), early_if);
+    bad = ((λ e. ((λ h. apart (line_at text) (early_if h) e), λ k v after b. never bad_line k v (sym e ∙ begins_line text k v after b))), λ h. bad_if (cut_at line_end text) (cut_law line_end text) h.0 (λ k v e. h.1 k v (rest_at text) (line_begins text k v e)));
     stays = λ n e. ap (λ s. left_by s text) e;
   }
 
@@ -143,7 +143,7 @@ pair_bytes text k v rest b = omega (arith, b.named, ap length b.whole, length-ap
 
 -- the law, at the line and the rest that were found
 pub found_law : (text rest : List ℕ) (s : Said) → s ≡ line_at text → rest ≡ rest_at text → ReadsAs text s rest
-found_law text rest s e f = subst (λ z. ReadsAs text z rest) (sym e) (subst (ReadsAs text (line_at text)) (sym f) (line-law text))
+found_law text rest s e f = subst (λ z. ReadsAs text z rest) (sym e) (subst (ReadsAs text (line_at text)) (sym f) (line_law text))
 
 -- what a pair leaves of a text is shorter, so a loop over the lines ends
 pub rest_shorter : (text k v : List ℕ) → line_at text ≡ pair k v → length (rest_at text) + 3 ≤ length text

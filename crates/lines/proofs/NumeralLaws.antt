@@ -100,9 +100,9 @@ value_ge : (n : ℕ) (cs : List ℕ) → n ≤ value_after n cs
 value_ge n [] = omega arith
 value_ge n (c ∷ cs) = omega (arith, value_ge (10 * n + (c - zero_digit)) cs)
 
-read_on-here : (most v : ℕ) (cs : List ℕ) → v ≤ most → cond (all_ascii_digits cs && leb (value_after v cs) most) (Some (value_after v cs)) None ≡ read_on most v cs
-read_on-here most v [] low = cond-true _ _ _ (le-leb v most low)
-read_on-here most v (c ∷ cs) low = grows (is_ascii_digit c) (leb (10 * v + (c - zero_digit)) most) refl (read_on-here most (10 * v + (c - zero_digit)) cs)
+read_on_here : (most v : ℕ) (cs : List ℕ) → v ≤ most → cond (all_ascii_digits cs && leb (value_after v cs) most) (Some (value_after v cs)) None ≡ read_on most v cs
+read_on_here most v [] low = cond-true _ _ _ (le-leb v most low)
+read_on_here most v (c ∷ cs) low = grows (is_ascii_digit c) (leb (10 * v + (c - zero_digit)) most) refl (read_on_here most (10 * v + (c - zero_digit)) cs)
   where
     grows : {w : ℕ} (t u : Bool) → leb w most ≡ u → (w ≤ most → cond (all_ascii_digits cs && leb (value_after w cs) most) (Some (value_after w cs)) None ≡ read_on most w cs) → cond ((t && all_ascii_digits cs) && leb (value_after w cs) most) (Some (value_after w cs)) None ≡ cond (t && u) (read_on most w cs) None
     grows false u q rest = refl
@@ -114,7 +114,7 @@ read_on-here most v (c ∷ cs) low = grows (is_ascii_digit c) (leb (10 * v + (c 
 pub numeral_read : (s : List ℕ) (most : ℕ) → 0 < length s → needless_zero s ≡ false → numeral s most ≡ read_on most 0 s
 numeral_read s most some zeros =
     let formed : well_formed s ≡ all_ascii_digits s = ap (λ t. t && all_ascii_digits s) (and_from _ _ (lt-ltb 0 (length s) some) (not_from_false _ zeros)) in
-    ap (λ t. cond (t && leb (value_after 0 s) most) (Some (value_after 0 s)) None) formed ∙ read_on-here most 0 s (omega arith)
+    ap (λ t. cond (t && leb (value_after 0 s) most) (Some (value_after 0 s)) None) formed ∙ read_on_here most 0 s (omega arith)
 
 pub numeral_empty : (s : List ℕ) (most : ℕ) → length s ≡ 0 → numeral s most ≡ None
 numeral_empty [] most e = refl

@@ -10,8 +10,8 @@ use Rattle.std.proofs.lemmas.Bool.{leb-true, leb-false}
 use Rattle.lines.specs.Placed.{fits, with_text, end_of, placed}
 
 -- what a write to a part of the space leaves
-pub put_mid-here : (text space ys : List ℕ) (at k : ℕ) → ys ≡ text → k ≡ length text → put_mid at k space ys ≡ with_text text at space
-put_mid-here text space ys at k same long =
+pub put_mid_here : (text space ys : List ℕ) (at k : ℕ) → ys ≡ text → k ≡ length text → put_mid at k space ys ≡ with_text text at space
+put_mid_here text space ys at k same long =
     let back : drop k (drop at space) ≡ drop (at + length text) space = drop-drop k at space ∙ ap (λ m. drop (at + m) space) long in
     ap (λ t. take at space ++ t) (λ i. same i ++ back i)
 
@@ -37,19 +37,19 @@ spelt_none n digits small long = record {
 }
 
 module _ (n rest start : ℕ) (digits : List ℕ) (h : Spelt n rest start digits) where
-  pub spelt-some : 0 < start
-  spelt-some = omega (arith, decimal_nonempty rest h.low, h.room)
+  pub spelt_some : 0 < start
+  spelt_some = omega (arith, decimal_nonempty rest h.low, h.room)
 
   -- one digit more
   put : (d : ℕ) → drop (start - 1) (set digits (start - 1) d) ≡ d ∷ drop start digits
   put d =
-      let some = spelt-some in
+      let some = spelt_some in
       let at : start - 1 + 1 ≡ start = omega arith in
       drop-set digits (start - 1) d (omega (arith, h.long, h.within)) ∙ ap (λ i. d ∷ drop i digits) at
 
-  pub spelt-more : 10 ≤ rest → Spelt n (rest / 10) (start - 1) (set digits (start - 1) (48 + rest % 10))
-  spelt-more more =
-      let some = spelt-some in
+  pub spelt_more : 10 ≤ rest → Spelt n (rest / 10) (start - 1) (set digits (start - 1) (48 + rest % 10))
+  spelt_more more =
+      let some = spelt_some in
       let step = decimal_step rest more h.low in
       let size : length (decimal rest) ≡ length (decimal (rest / 10)) + 1 = ap length step ∙ length-append (decimal (rest / 10)) _ in
       record {
@@ -60,8 +60,8 @@ module _ (n rest start : ℕ) (digits : List ℕ) (h : Spelt n rest start digits
         text = ap (λ t. decimal (rest / 10) ++ t) (put _) ∙ sym (append_assoc (decimal (rest / 10)) _ (drop start digits)) ∙ ap (λ t. t ++ drop start digits) (sym step) ∙ h.text;
       }
 
-  pub spelt-all : rest < 10 → between (start - 1) 20 (set digits (start - 1) (48 + rest)) ≡ decimal n
-  spelt-all last = digits_part _ _ (length-set digits _ _ ∙ h.long) ∙ put _ ∙ ap (λ t. t ++ drop start digits) (sym (decimal_digit rest last)) ∙ h.text
+  pub spelt_all : rest < 10 → between (start - 1) 20 (set digits (start - 1) (48 + rest)) ≡ decimal n
+  spelt_all last = digits_part _ _ (length-set digits _ _ ∙ h.long) ∙ put _ ∙ ap (λ t. t ++ drop start digits) (sym (decimal_digit rest last)) ∙ h.text
 
 -- a minus takes one byte more, and has room: what stands behind it is at most 2 ^ 63
 pub minus_room : (n start : ℕ) (digits : List ℕ) → n ≤ 2 ^ 63 → length digits ≡ 20 → between start 20 digits ≡ decimal n → 1 ≤ start
@@ -116,8 +116,8 @@ module _ (a b space : List ℕ) (at e : ℕ) (first : end_of a at space ≡ Some
       let size : e + length b ≡ at + length (a ++ b) = ap (λ n. n + length b) h.0 ∙ omega (arith, length-append a b) in
       ap (λ n. cond (leb (e + length b) n) (Some (e + length b)) None) (length_placed a space at) ∙ ap (λ n. cond (leb n (length space)) (Some n) None) size
 
-  pub placed-more : (f : ℕ) → end_of b e (placed a at space) ≡ Some f → placed b e (placed a at space) ≡ placed (a ++ b) at space
-  placed-more f second =
+  pub placed_more : (f : ℕ) → end_of b e (placed a at space) ≡ Some f → placed b e (placed a at space) ≡ placed (a ++ b) at space
+  placed_more f second =
       let h = fitted a space at e first in
       let k = fitted b (placed a at space) e f second in
       let l = fitted (a ++ b) space at f (sym end_more ∙ second) in

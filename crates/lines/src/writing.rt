@@ -1,6 +1,6 @@
 // Texts and numbers written into lent space. A text that has no room there is not begun.
 ghost use Rattle.std.specs.Prelude.{◌≡◌, ◌+◌, ◌≤◌, length, decimal};
-ghost use Rattle.std.specs.Fmt.{signed_decimal as signedText};
+ghost use Rattle.std.specs.Fmt.{signed_decimal as signed_text};
 ghost use Rattle.std.specs.List.{between};
 ghost use Rattle.lines.specs.Placed.{with_text, end_of, placed};
 
@@ -50,7 +50,7 @@ fn spell(n: u64, digits: &mut [u8; MOST_DIGITS]) -> usize
 // The same of a number with a sign: a minus stands before a number below 0.
 fn spell_signed(z: i64, digits: &mut [u8; MOST_DIGITS]) -> usize
     ensures within { result ≤ 20 }
-    ensures text { between result 20 digits.new ≡ signedText z }
+    ensures text { between result 20 digits.new ≡ signed_text z }
 {
     let start = spell(z.unsigned_abs(), digits);
     if z >= 0 {
@@ -73,8 +73,8 @@ pub fn write_number(n: u64, out: &mut [u8], at: usize) -> Option<usize>
 
 // The same of a number with a sign.
 pub fn write_signed(z: i64, out: &mut [u8], at: usize) -> Option<usize>
-    ensures end { result ≡ end_of (signedText z) at out.old }
-    ensures after { out.new ≡ placed (signedText z) at out.old }
+    ensures end { result ≡ end_of (signed_text z) at out.old }
+    ensures after { out.new ≡ placed (signed_text z) at out.old }
 {
     let mut digits = [0; MOST_DIGITS];
     let start = spell_signed(z, &mut digits);

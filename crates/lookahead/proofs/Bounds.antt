@@ -103,19 +103,19 @@ module _ (t : Scale) (vs : List Row) (near : Near vs) (fit : EachFit t.places vs
   weighed : ℕ → ℕ → Row
   weighed w s = times w (value_of t vs s)
 
-  weighed-reach : (w s : ℕ) → s < length vs → reach (weighed w s) ≤ w * most_value
+  weighed_reach : (w s : ℕ) → s < length vs → reach (weighed w s) ≤ w * most_value
   unfolding weighed
-  weighed-reach w s l =
+  weighed_reach w s l =
       let same : w ≤ w = omega arith in
       let far = mul-le w (reach (value_of t vs s)) w most_value same (near_at vs s near l (zeros t.places)).0 in
       omega (arith, reach_times w (value_of t vs s), far)
 
-  one-there : (u : Row) (o : Outcome) → o.next < length vs → o.weight ≤ most_factor → reach u + o.weight * most_value ≤ most_reach
+  one_there : (u : Row) (o : Outcome) → o.next < length vs → o.weight ≤ most_factor → reach u + o.weight * most_value ≤ most_reach
       → add_outcome vs u o ≡ Some (plus u (times o.weight (value_of t vs o.next)))
   unfolding weighed
-  one-there u o l f h =
+  one_there u o l f h =
       let at = near_at vs o.next near l (zeros t.places) in
-      let far = weighed-reach o.weight o.next l in
+      let far = weighed_reach o.weight o.next l in
       let same : o.weight ≤ o.weight = omega arith in
       let times-far : o.weight * reach (value_of t vs o.next) ≤ most_reach = omega (arith, mul-le o.weight (reach (value_of t vs o.next)) o.weight most_value same at.0) in
       ap (λ z. then z (λ v. then (multiplied o.weight v) (summed u))) at.1
@@ -128,17 +128,17 @@ module _ (t : Scale) (vs : List Row) (near : Near vs) (fit : EachFit t.places vs
   all_there [] u i l f h = ap {B = Option Row} Some (sym (plus_zeros t.places u l))
   all_there (o ∷ os) u i l f h =
       let p : Row = times o.weight (value_of t vs o.next) in
-      let far = weighed-reach o.weight o.next i.0 in
+      let far = weighed_reach o.weight o.next i.0 in
       let long : length p ≡ t.places = length_times o.weight (value_of t vs o.next) ∙ fit o.next i.0 in
-      let one = one-there u o i.0 (omega arith) (omega arith) in
+      let one = one_there u o i.0 (omega arith) (omega arith) in
       let rest = all_there os (plus u p) i.1 (length_plus t.places u p l long) (omega arith) (omega (arith, reach_plus u p)) in
       ap (λ z. then z (λ w. add_outcomes vs w os)) one ∙ rest ∙ ap {B = Option Row} Some (plus_assoc u p (expected t vs os))
 
-  pub expected-reach : (os : List Outcome) → Inside (length vs) os → reach (expected t vs os) ≤ weights os * most_value
+  pub expected_reach : (os : List Outcome) → Inside (length vs) os → reach (expected t vs os) ≤ weights os * most_value
   unfolding weighed
-  expected-reach [] i = omega (arith, zeros_reach t.places)
-  expected-reach (o ∷ os) i =
-      omega (arith, reach_plus (times o.weight (value_of t vs o.next)) (expected t vs os), weighed-reach o.weight o.next i.0, expected-reach os i.1)
+  expected_reach [] i = omega (arith, zeros_reach t.places)
+  expected_reach (o ∷ os) i =
+      omega (arith, reach_plus (times o.weight (value_of t vs o.next)) (expected t vs os), weighed_reach o.weight o.next i.0, expected_reach os i.1)
 
 pub fits_map : {A : Type 0} (row : A → Row) (n : ℕ) → ((a : A) → length (row a) ≡ n) → (xs : List A) → EachFit n (map row xs)
 fits_map row n f [] s l = absurd (omega arith)
@@ -150,16 +150,16 @@ module _ (m : Model) (lawful : Lawful m) (t : Scale) (scaled : LawfulScale t) (v
     paid : Row
     paid = price t (m.bill s x)
 
-    paid-reach : reach (times whole paid) ≤ whole * most_price
+    paid_reach : reach (times whole paid) ≤ whole * most_price
     unfolding paid
-    paid-reach =
+    paid_reach =
         let same : whole ≤ whole = omega arith in
         let far = mul-le whole (reach (price t (m.bill s x))) whole most_price same (scaled.bounded (m.bill s x) (lawful.billed s x feasible)) in
         omega (arith, reach_times whole (price t (m.bill s x)), far)
 
-    paid-fits : length (times whole paid) ≡ t.places
+    paid_fits : length (times whole paid) ≡ t.places
     unfolding paid
-    paid-fits =
+    paid_fits =
         length_times whole (price t (m.bill s x))
         ∙ length_plus t.places (times (m.bill s x).seconds t.second) (times (m.bill s x).cents t.cent)
         (length_times (m.bill s x).seconds t.second ∙ scaled.second_fits) (length_times (m.bill s x).cents t.cent ∙ scaled.cent_fits)
@@ -167,51 +167,51 @@ module _ (m : Model) (lawful : Lawful m) (t : Scale) (scaled : LawfulScale t) (v
     inside : Inside (length vs) (m.outcomes s x)
     inside = subst (λ n. Inside n (m.outcomes s x)) (sym within.long) (lawful.spread s x feasible).inside
 
-    pub ahead-reach : reach (look_ahead m t vs s x) ≤ 11000000000000000
+    pub ahead_reach : reach (look_ahead m t vs s x) ≤ 11000000000000000
     unfolding paid
-    ahead-reach =
+    ahead_reach =
         omega (
           arith,
           reach_plus (times whole (price t (m.bill s x))) (expected t vs (m.outcomes s x)),
-          paid-reach,
-          expected-reach t vs within.near fit (m.outcomes s x) inside,
+          paid_reach,
+          expected_reach t vs within.near fit (m.outcomes s x) inside,
           (lawful.spread s x feasible).shared,
         )
 
-    pub ahead-there : look_ahead_steps m t vs s x ≡ Some (look_ahead m t vs s x)
+    pub ahead_there : look_ahead_steps m t vs s x ≡ Some (look_ahead m t vs s x)
     unfolding paid
-    ahead-there =
+    ahead_there =
         let shared = (lawful.spread s x feasible).shared in
-        let far = paid-reach in
+        let far = paid_reach in
         let small : whole * reach (price t (m.bill s x)) ≤ most_reach =
         let same : whole ≤ whole = omega arith in
         omega (arith, mul-le whole (reach (price t (m.bill s x))) whole most_price same (scaled.bounded (m.bill s x) (lawful.billed s x feasible))) in
         ap (λ z. cond z (then (priced t (m.bill s x)) (λ p. then (multiplied whole p) (λ u. add_outcomes vs u (m.outcomes s x)))) None) feasible
         ∙ ap (λ z. then z (λ p. then (multiplied whole p) (λ u. add_outcomes vs u (m.outcomes s x)))) (priced_there t (m.bill s x) (lawful.billed s x feasible))
         ∙ ap (λ z. then z (λ u. add_outcomes vs u (m.outcomes s x))) (multiplied_there whole (price t (m.bill s x)) (omega arith) small)
-        ∙ all_there t vs within.near fit (m.outcomes s x) (times whole (price t (m.bill s x))) inside paid-fits (omega arith) (omega arith)
+        ∙ all_there t vs within.near fit (m.outcomes s x) (times whole (price t (m.bill s x))) inside paid_fits (omega arith) (omega arith)
 
-    pub gain-there : gain_steps m t vs s x ≡ Some (gain m t vs s x)
-    gain-there =
+    pub gain_there : gain_steps m t vs s x ≡ Some (gain m t vs s x)
+    gain_there =
         let l : s < length vs = omega (arith, within.long, (lawful.in_range s x feasible).0) in
         let at = near_at vs s within.near l (zeros t.places) in
         let same : whole ≤ whole = omega arith in
         let far : whole * reach (value_of t vs s) ≤ whole * most_value = mul-le whole (reach (value_of t vs s)) whole most_value same at.0 in
         let near-own = reach_times whole (value_of t vs s) in
-        let ahead = ahead-reach in
-        ap (λ z. then z (λ l. then (slice_get vs s) (λ v. then (multiplied whole v) (lessened l)))) ahead-there
+        let ahead = ahead_reach in
+        ap (λ z. then z (λ l. then (slice_get vs s) (λ v. then (multiplied whole v) (lessened l)))) ahead_there
         ∙ ap (λ z. then z (λ v. then (multiplied whole v) (lessened (look_ahead m t vs s x)))) at.1
         ∙ ap (λ z. then z (lessened (look_ahead m t vs s x))) (multiplied_there whole (value_of t vs s) (omega arith) (omega arith))
         ∙ lessened_there (look_ahead m t vs s x) (times whole (value_of t vs s)) (omega arith)
 
-  by-feasible : (b : Bool) (s x : ℕ) → m.feasible s x ≡ b → (o : Option Row) (u : Row) → (m.feasible s x ≡ true → o ≡ Some u) → (m.feasible s x ≡ false → o ≡ None) → o ≡ cond b (Some u) None
-  by-feasible true s x e o u yes-case no-case = yes-case e
-  by-feasible false s x e o u yes-case no-case = no-case e
+  by_feasible : (b : Bool) (s x : ℕ) → m.feasible s x ≡ b → (o : Option Row) (u : Row) → (m.feasible s x ≡ true → o ≡ Some u) → (m.feasible s x ≡ false → o ≡ None) → o ≡ cond b (Some u) None
+  by_feasible true s x e o u yes-case no-case = yes-case e
+  by_feasible false s x e o u yes-case no-case = no-case e
 
-  pub ahead-answer : (s x : ℕ) → look_ahead_steps m t vs s x ≡ cond (m.feasible s x) (Some (look_ahead m t vs s x)) None
-  ahead-answer s x = by-feasible (m.feasible s x) s x refl (look_ahead_steps m t vs s x) (look_ahead m t vs s x) (ahead-there s x)
+  pub ahead_answer : (s x : ℕ) → look_ahead_steps m t vs s x ≡ cond (m.feasible s x) (Some (look_ahead m t vs s x)) None
+  ahead_answer s x = by_feasible (m.feasible s x) s x refl (look_ahead_steps m t vs s x) (look_ahead m t vs s x) (ahead_there s x)
       (λ e. ap (λ z. cond z (then (priced t (m.bill s x)) (λ p. then (multiplied whole p) (λ u. add_outcomes vs u (m.outcomes s x)))) None) e)
 
-  pub gain-answer : (s x : ℕ) → gain_steps m t vs s x ≡ cond (m.feasible s x) (Some (gain m t vs s x)) None
-  gain-answer s x = by-feasible (m.feasible s x) s x refl (gain_steps m t vs s x) (gain m t vs s x) (gain-there s x)
+  pub gain_answer : (s x : ℕ) → gain_steps m t vs s x ≡ cond (m.feasible s x) (Some (gain m t vs s x)) None
+  gain_answer s x = by_feasible (m.feasible s x) s x refl (gain_steps m t vs s x) (gain m t vs s x) (gain_there s x)
       (λ e. ap (λ z. then (cond z (then (priced t (m.bill s x)) (λ p. then (multiplied whole p) (λ u. add_outcomes vs u (m.outcomes s x)))) None) (λ l. then (slice_get vs s) (λ v. then (multiplied whole v) (lessened l)))) e)

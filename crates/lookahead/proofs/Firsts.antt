@@ -39,16 +39,16 @@ module _ (good : Row → Row → Bool) (Ok : Row → Type 0)
     best = λ k v l q. each_more n (λ j. f j ≡ Some v → good u v ≡ true) (λ j lj q'. clash (f j) v q' (h j lj)) (λ q'. subst (λ w. good u w ≡ true) (same (f n) u v e q') (itself u (rows n u e))) k l q;
     first = λ k v l q. clash (f k) v q (h k l);
   }
-  step n (Some p) (Some u) e h = by-test (good p.row u) refl
+  step n (Some p) (Some u) e h = by_test (good p.row u) refl
     where
-      by-test : (b : Bool) → good p.row u ≡ b → FirstBest good f (suc n) (cond b (Some p) (Some (record { at = n; row = u })))
-      by-test true g = record {
+      by_test : (b : Bool) → good p.row u ≡ b → FirstBest good f (suc n) (cond b (Some p) (Some (record { at = n; row = u })))
+      by_test true g = record {
         below = omega (arith, h.below);
         there = h.there;
         best = λ k v l q. each_more n (λ j. f j ≡ Some v → good p.row v ≡ true) (λ j lj. h.best j v lj) (λ q'. subst (λ w. good p.row w ≡ true) (same (f n) u v e q') g) k l q;
         first = h.first;
       }
-      by-test false g =
+      by_test false g =
           let ok-p = rows p.at p.row h.there in
           let ok-u = rows n u e in
           let turned = other_way p.row u ok-p ok-u g in
@@ -63,9 +63,9 @@ module _ (good : Row → Row → Bool) (Ok : Row → Type 0)
                 (λ no_way. no_way) (cases_Bool (good v u));
           }
 
-  pub first-best-law : (n : ℕ) → FirstBest good f n (first_best good f n)
-  first-best-law zero = λ k l. absurd (omega arith)
-  first-best-law (suc n) = step n (first_best good f n) (f n) refl (first-best-law n)
+  pub first_best_law : (n : ℕ) → FirstBest good f n (first_best good f n)
+  first_best_law zero = λ k l. absurd (omega arith)
+  first_best_law (suc n) = step n (first_best good f n) (f n) refl (first_best_law n)
 
 -- equal questions have equal answers
 pub first_best_same : (good : Row → Row → Bool) (f g : ℕ → Option Row) (n : ℕ) → ((k : ℕ) → k < n → f k ≡ g k) → first_best good f n ≡ first_best good g n

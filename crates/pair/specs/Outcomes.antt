@@ -64,12 +64,12 @@ sum_of_products f g w (suc h) some =
     let none : i / w ≡ 0 = div-eq_of_lt below in
     let row : (w * h + i) / w ≡ h = omega (arith, mul-add-div some h i) in
     ap (λ p. f p * g ((w * h + i) / w)) place ∙ ap (λ r. f i * g r) row in
-    let row-sum : sum_below (λ i. entry (w * h + i)) w ≡ sum_below f w * g h = sum_alike (λ i. entry (w * h + i)) (λ i. f i * g h) w in_row ∙ sum_scaled f (g h) w in
+    let row_sum : sum_below (λ i. entry (w * h + i)) w ≡ sum_below f w * g h = sum_alike (λ i. entry (w * h + i)) (λ i. f i * g h) w in_row ∙ sum_scaled f (g h) w in
     let before : sum_below entry (w * h) ≡ sum_below f w * sum_below g h = sum_of_products f g w h some in
     let split : sum_below entry (w * h + w) ≡ sum_below entry (w * h) + sum_below (λ i. entry (w * h + i)) w = sum_split entry (w * h) w in
     let more : w * suc h ≡ w * h + w = mul-suc w h in
     let whole : sum_below f w * (sum_below g h + g h) ≡ sum_below f w * sum_below g h + sum_below f w * g h = mul-add (sum_below f w) (sum_below g h) (g h) in
-    ap (sum_below entry) more ∙ omega (arith, split, row-sum, before, whole)
+    ap (sum_below entry) more ∙ omega (arith, split, row_sum, before, whole)
 
 pub weights_sum : (os : List Outcome) → weights os ≡ sum_by (λ o. o.weight) os
 weights_sum [] = refl

@@ -9,7 +9,7 @@ use Rattle.lines.specs.Fields.{joined}
 use Rattle.lines.specs.Line.{Printable}
 use Rattle.reading.specs.Values.{list_of}
 use Rattle.reading.proofs.ValueLaws.{list_law}
-use Rattle.reading.proofs.WrittenLaws.{widest_value, list-printable, list-short}
+use Rattle.reading.proofs.WrittenLaws.{widest_value, list_printable, list_short}
 use Rattle.pair.specs.Limits.{hundred, most_grades}
 use Rattle.pair.specs.Units.{over_grades}
 use Rattle.pairtext.specs.Readers.{blank_row, blank_rows}
@@ -87,12 +87,12 @@ module _ (k grades : ℕ) (room : k < most_grades) where
   abbrev form : List ℕ → List ℕ
   form row = padded (take grades row)
 
-  blank-next : drop k blank_rows ≡ blank_row ∷ drop (k + 1) blank_rows
-  blank-next = drop_more blank_rows k blank_row room ∙ ap (λ l. l ∷ drop (k + 1) blank_rows) (get_or-replicate most_grades k blank_row blank_row room)
+  blank_next : drop k blank_rows ≡ blank_row ∷ drop (k + 1) blank_rows
+  blank_next = drop_more blank_rows k blank_row room ∙ ap (λ l. l ∷ drop (k + 1) blank_rows) (get_or-replicate most_grades k blank_row blank_row room)
 
   -- p is what stands before the row
   put_next : (p : List (List ℕ)) (hs : List ℕ) → length p ≡ k → set (p ++ drop k blank_rows) k hs ≡ p ++ (hs ∷ drop (k + 1) blank_rows)
-  put_next p hs long = ap (λ l. set (p ++ l) k hs) blank-next ∙ set_at p blank_row (drop (k + 1) blank_rows) hs k long
+  put_next p hs long = ap (λ l. set (p ++ l) k hs) blank_next ∙ set_at p blank_row (drop (k + 1) blank_rows) hs k long
 
   length_front : (rows : List (List ℕ)) → k ≤ length rows → length (map form (take k rows)) ≡ k
   length_front rows l = length-map (take k rows) form ∙ length-take-le k rows l
@@ -118,44 +118,44 @@ zero_from [] h = refl
 zero_from (x ∷ hs) h = and_from _ _ (eq-eqb x 0 (h 0 (omega arith))) (zero_from hs (λ i l. h (suc i) (omega arith)))
 
 module _ (row : List ℕ) (grades own : ℕ) (some : 0 < grades) (most : grades ≤ most_grades) (law : RowLaw row (own + 1) grades) (form_of : row ≡ padded (take grades row)) where
-  padded-long : (hs : List ℕ) → length hs ≤ most_grades → length (padded hs) ≡ most_grades
-  padded-long hs l = length-append hs (drop (length hs) blank_row) ∙ omega (arith, length-drop (length hs) blank_row)
+  padded_long : (hs : List ℕ) → length hs ≤ most_grades → length (padded hs) ≡ most_grades
+  padded_long hs l = length-append hs (drop (length hs) blank_row) ∙ omega (arith, length-drop (length hs) blank_row)
 
-  row-long : length (take grades row) ≡ grades
-  row-long =
+  row_long : length (take grades row) ≡ grades
+  row_long =
       let short : length (take grades row) ≤ grades = omega (arith, length-take grades row) in
-      let whole : length row ≡ most_grades = ap length form_of ∙ padded-long (take grades row) (omega arith) in
+      let whole : length row ≡ most_grades = ap length form_of ∙ padded_long (take grades row) (omega arith) in
       length-take-le grades row (omega arith)
 
-  row-sum : sum (take grades row) ≡ hundred
-  row-sum = sym (over_take row grades) ∙ law.0
+  row_sum : sum (take grades row) ≡ hundred
+  row_sum = sym (over_take row grades) ∙ law.0
 
   row_within : AllByRecursion (λ n. n ≤ hundred) (take grades row)
-  row_within = All-from_get_or (λ n. n ≤ hundred) (take grades row) 0 (λ i l. omega (arith, get_or-le-sum_by (λ x. x) (take grades row) i 0 l, row-sum))
+  row_within = All-from_get_or (λ n. n ≤ hundred) (take grades row) 0 (λ i l. omega (arith, get_or-le-sum_by (λ x. x) (take grades row) i 0 l, row_sum))
 
-  row-adds-up : adds_up own (padded (take grades row)) ≡ true
-  row-adds-up =
+  row_adds_up : adds_up own (padded (take grades row)) ≡ true
+  row_adds_up =
       let hs : List ℕ = take grades row in
       let zeros : drop (length hs) blank_row ≡ replicate (most_grades - length hs) 0 = drop-replicate (length hs) most_grades 0 in
       let whole : sum (padded hs) ≡ sum hs + sum (drop (length hs) blank_row) = sum_by-append (λ x. x) hs (drop (length hs) blank_row) in
-      let total : sum (padded hs) ≡ hundred = omega (arith, whole, ap sum zeros, sum_zeros (most_grades - length hs), row-sum) in
-      let front : all_zero (take own row) ≡ true = zero_from (take own row) before-own in
+      let total : sum (padded hs) ≡ hundred = omega (arith, whole, ap sum zeros, sum_zeros (most_grades - length hs), row_sum) in
+      let front : all_zero (take own row) ≡ true = zero_from (take own row) before_own in
       and_from _ _ (eq-eqb _ hundred total) (ap (λ l. all_zero (take own l)) (sym form_of) ∙ front)
     where
-      before-own : (i : ℕ) → i < length (take own row) → get_or (take own row) i 0 ≡ 0
-      before-own i l =
+      before_own : (i : ℕ) → i < length (take own row) → get_or (take own row) i 0 ≡ 0
+      before_own i l =
           let below : i < own = omega (arith, length-take own row) in
           let back : (i + 1) - 1 ≡ i = omega arith in
           get_or-take own row i 0 below ∙ ap (λ k. get_or row k 0) (sym back) ∙ law.1 (i + 1) (omega arith) (omega arith)
 
   pub row_back : row_of (joined (map decimal (take grades row))) grades own ≡ Some (padded (take grades row))
   row_back =
-      let listed : list_of (joined (map decimal (take grades row))) hundred grades ≡ Some (take grades row) = (list_law (joined (map decimal (take grades row))) hundred grades (omega arith) (take grades row)).1 (refl, some, row-long, row_within) in
-      ap (tested own) listed ∙ cond-true _ _ _ row-adds-up
+      let listed : list_of (joined (map decimal (take grades row))) hundred grades ≡ Some (take grades row) = (list_law (joined (map decimal (take grades row))) hundred grades (omega arith) (take grades row)).1 (refl, some, row_long, row_within) in
+      ap (tested own) listed ∙ cond-true _ _ _ row_adds_up
 
   -- and its text fits a line
-  pub row-printable : AllByRecursion Printable (joined (map decimal (take grades row)))
-  row-printable = list-printable hundred 3 (omega arith) (omega arith) (omega arith) (take grades row) row_within
+  pub row_printable : AllByRecursion Printable (joined (map decimal (take grades row)))
+  row_printable = list_printable hundred 3 (omega arith) (omega arith) (omega arith) (take grades row) row_within
 
-  pub row-short : length (joined (map decimal (take grades row))) ≤ widest_value
-  row-short = omega (arith, list-short hundred 3 (omega arith) (omega arith) (omega arith) (take grades row) row_within, row-long)
+  pub row_short : length (joined (map decimal (take grades row))) ≤ widest_value
+  row_short = omega (arith, list_short hundred 3 (omega arith) (omega arith) (omega arith) (take grades row) row_within, row_long)

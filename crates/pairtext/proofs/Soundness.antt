@@ -41,16 +41,16 @@ index_within One = omega arith
 index_within Two = omega arith
 
 module _ (us : List UnitNumbers) (both : length us ≡ 2) (n : UnitName) (u : UnitNumbers) where
-  pub put-here : get_or (set us (unit_index n) u) (unit_index n) no_unit ≡ u
-  put-here = get_or-set_same us (unit_index n) u no_unit (omega (arith, index_within n))
+  pub put_here : get_or (set us (unit_index n) u) (unit_index n) no_unit ≡ u
+  put_here = get_or-set_same us (unit_index n) u no_unit (omega (arith, index_within n))
 
   pub put_both : length (set us (unit_index n) u) ≡ 2
   put_both = length-set us (unit_index n) u ∙ both
 
-  put-kept : Kept u → ((i : ℕ) → i < 2 → Kept (get_or us i no_unit)) → (i : ℕ) → i < 2 → Kept (get_or (set us (unit_index n) u) i no_unit)
-  put-kept k h i l =
+  put_kept : Kept u → ((i : ℕ) → i < 2 → Kept (get_or us i no_unit)) → (i : ℕ) → i < 2 → Kept (get_or (set us (unit_index n) u) i no_unit)
+  put_kept k h i l =
       ⊎_elim
-      (λ (e : i ≡ unit_index n). subst (λ j. Kept (get_or (set us (unit_index n) u) j no_unit)) (sym e) (subst Kept (sym put-here) k))
+      (λ (e : i ≡ unit_index n). subst (λ j. Kept (get_or (set us (unit_index n) u) j no_unit)) (sym e) (subst Kept (sym put_here) k))
       (λ (e : i ≡ unit_index n → ⊥). subst Kept (sym (get_or-set_other us (unit_index n) i u no_unit e)) (h i l))
       (cases_eq i (unit_index n))
 
@@ -67,7 +67,7 @@ put_sound r s k u h kept here = record {
   setup = h.setup;
   inspect = h.inspect;
   both = put_both r.units h.both r.opened u;
-  kept = put-kept r.units h.both r.opened u kept h.kept;
+  kept = put_kept r.units h.both r.opened u kept h.kept;
   other = put_other r.units r.opened u r (at_stage s (at_row k (with_unit u r))) refl refl h.other;
   here = here;
 }
@@ -95,8 +95,8 @@ module _ (u : UnitNumbers) (row : ℕ) (hs : List ℕ) (long : length u.rows ≡
       let back : (row + 1) - 1 ≡ row = omega arith in
       ap (λ k. get_or (set u.rows row hs) k []) back ∙ get_or-set_same u.rows row hs [] (omega (arith, long))
 
-  pub more-graded : Graded row u → RowLaw hs (row + 1) u.grades → hs ≡ padded (take u.grades hs) → Graded (row + 1) (with_row row hs u)
-  more-graded h law form = (
+  pub more_graded : Graded row u → RowLaw hs (row + 1) u.grades → hs ≡ padded (take u.grades hs) → Graded (row + 1) (with_row row hs u)
+  more_graded h law form = (
     h.0,
     h.1,
     (λ g low high. ⊎_elim
@@ -109,20 +109,20 @@ module _ (u : UnitNumbers) (row : ℕ) (hs : List ℕ) (long : length u.rows ≡
   )
 
 module _ (r : PairReader) (h : Sound r) (value : List ℕ) (next : PairReader) where
-  u-kept : Kept (opened_unit r)
-  u-kept = h.kept (unit_index r.opened) (index_within r.opened)
+  u_kept : Kept (opened_unit r)
+  u_kept = h.kept (unit_index r.opened) (index_within r.opened)
 
   -- what is said of the unit that was put in
   put : (P : UnitNumbers → Type 0) (v : UnitNumbers) → P v → P (opened_unit (with_unit v r))
-  put P v p = subst P (sym (put-here r.units h.both r.opened v)) p
+  put P v p = subst P (sym (put_here r.units h.both r.opened v)) p
 
   pub bounds : (least most n : ℕ) → most < 2 ^ 64 → number_between value least most ≡ Some n → (least ≤ n) × (n ≤ most)
   bounds least most n small e = let b = (between_law value least most small n).0 e in (b.1, b.2)
 
-  behind-row-sound : (hs : List ℕ) (t : Bool) → Graded r.row (opened_unit r) × (r.row + 1 < (opened_unit r).grades) → row_of value (opened_unit r).grades r.row ≡ Some hs → eqb (r.row + 1 + 1) (opened_unit r).grades ≡ t → Sound (at_stage (cond t PlannedDue RowDue) (at_row (r.row + 1) (with_unit (with_row r.row hs (opened_unit r)) r)))
-  behind-row-sound hs t now e q =
-      let more : Graded (r.row + 1) (with_row r.row hs (opened_unit r)) = more-graded (opened_unit r) r.row hs u-kept.0 (omega (arith, now.0.1, now.1)) now.0 (read_row_law value (opened_unit r).grades r.row hs e) (read_row_form value (opened_unit r).grades r.row hs e) in
-      put_sound r (cond t PlannedDue RowDue) (r.row + 1) (with_row r.row hs (opened_unit r)) h (length-set (opened_unit r).rows r.row hs ∙ u-kept.0, u-kept.1) (by t q more)
+  behind_row_sound : (hs : List ℕ) (t : Bool) → Graded r.row (opened_unit r) × (r.row + 1 < (opened_unit r).grades) → row_of value (opened_unit r).grades r.row ≡ Some hs → eqb (r.row + 1 + 1) (opened_unit r).grades ≡ t → Sound (at_stage (cond t PlannedDue RowDue) (at_row (r.row + 1) (with_unit (with_row r.row hs (opened_unit r)) r)))
+  behind_row_sound hs t now e q =
+      let more : Graded (r.row + 1) (with_row r.row hs (opened_unit r)) = more_graded (opened_unit r) r.row hs u_kept.0 (omega (arith, now.0.1, now.1)) now.0 (read_row_law value (opened_unit r).grades r.row hs e) (read_row_form value (opened_unit r).grades r.row hs e) in
+      put_sound r (cond t PlannedDue RowDue) (r.row + 1) (with_row r.row hs (opened_unit r)) h (length-set (opened_unit r).rows r.row hs ∙ u_kept.0, u_kept.1) (by t q more)
     where
       by : (t : Bool) → eqb (r.row + 1 + 1) (opened_unit r).grades ≡ t → Graded (r.row + 1) (with_row r.row hs (opened_unit r)) → Here (cond t PlannedDue RowDue) (at_stage (cond t PlannedDue RowDue) (at_row (r.row + 1) (with_unit (with_row r.row hs (opened_unit r)) r)))
       by true q more =
@@ -132,62 +132,62 @@ module _ (r : PairReader) (h : Sound r) (value : List ℕ) (next : PairReader) w
           let less : r.row + 1 + 1 < (opened_unit r).grades = omega (arith, now.1, eqb-false _ _ q) in
           put (λ v. Graded (r.row + 1) v × (r.row + 1 + 1 < v.grades)) (with_row r.row hs (opened_unit r)) (more, less)
 
-  behind-unit-sound : (n : UnitName) (dark : ℕ) → r.opened ≡ n → WhollyGraded (opened_unit r) → dark ≤ most_dark → Sound (behind_unit n (with_unit (with_dark dark (opened_unit r)) r))
-  behind-unit-sound One dark e now low = record {
+  behind_unit_sound : (n : UnitName) (dark : ℕ) → r.opened ≡ n → WhollyGraded (opened_unit r) → dark ≤ most_dark → Sound (behind_unit n (with_unit (with_dark dark (opened_unit r)) r))
+  behind_unit_sound One dark e now low = record {
     threshold = h.threshold;
     setup = h.setup;
     inspect = h.inspect;
     both = put_both r.units h.both r.opened (with_dark dark (opened_unit r));
-    kept = put-kept r.units h.both r.opened (with_dark dark (opened_unit r)) (u-kept.0, (u-kept.1.0, u-kept.1.1, low)) h.kept;
+    kept = put_kept r.units h.both r.opened (with_dark dark (opened_unit r)) (u_kept.0, (u_kept.1.0, u_kept.1.1, low)) h.kept;
     other = subst (λ i. WhollyGraded (get_or (set r.units (unit_index r.opened) (with_dark dark (opened_unit r))) i no_unit)) (ap unit_index e) (put WhollyGraded (with_dark dark (opened_unit r)) now);
     here = put_other r.units One (with_dark dark (opened_unit r)) r (with_unit (with_dark dark (opened_unit r)) r) refl (ap (λ n. set r.units (unit_index n) (with_dark dark (opened_unit r))) e) (subst (λ n. Other n r) e h.other);
   }
-  behind-unit-sound Two dark e now low =
-      put_sound r EndDue r.row (with_dark dark (opened_unit r)) h (u-kept.0, (u-kept.1.0, u-kept.1.1, low)) (put WhollyGraded (with_dark dark (opened_unit r)) now, e)
+  behind_unit_sound Two dark e now low =
+      put_sound r EndDue r.row (with_dark dark (opened_unit r)) h (u_kept.0, (u_kept.1.0, u_kept.1.1, low)) (put WhollyGraded (with_dark dark (opened_unit r)) now, e)
 
-  pub sound-at : (s : Stage) → Here s r → take_at s r value ≡ Ok next → Sound next
-  sound-at KindDue now e =
+  pub sound_at : (s : Stage) → Here s r → take_at s r value ≡ Ok next → Sound next
+  sound_at KindDue now e =
       let m = word_made value _ (at_stage ThresholdDue r) next e in
       subst Sound m.1 (same_sound r (at_stage ThresholdDue r) h h.threshold h.setup h.inspect refl refl now)
-  sound-at ThresholdDue now e =
+  sound_at ThresholdDue now e =
       let m = on_made (number_between value 0 most_threshold) _ next e in
       let b = bounds 0 most_threshold m.0 (omega arith) m.1.0 in
       subst Sound m.1.1 (same_sound r (at_stage SetupDue (with_threshold m.0 r)) h b.1 h.setup h.inspect refl refl now)
-  sound-at SetupDue now e =
+  sound_at SetupDue now e =
       let m = on_made (number_between value 0 most_charge) _ next e in
       let b = bounds 0 most_charge m.0 (omega arith) m.1.0 in
       subst Sound m.1.1 (same_sound r (at_stage InspectDue (with_setup m.0 r)) h h.threshold b.1 h.inspect refl refl now)
-  sound-at InspectDue now e =
+  sound_at InspectDue now e =
       let m = on_made (number_between value 0 most_charge) _ next e in
       let b = bounds 0 most_charge m.0 (omega arith) m.1.0 in
       subst Sound m.1.1 (same_sound r (at_stage UnitDue (with_inspect m.0 r)) h h.threshold h.setup b.1 refl refl now.0)
-  sound-at UnitDue now e =
+  sound_at UnitDue now e =
       let m = on_made _ _ next e in
       subst Sound m.1.1 (same_sound r (at_stage GradesDue r) h h.threshold h.setup h.inspect refl refl now)
-  sound-at GradesDue now e =
+  sound_at GradesDue now e =
       let m = on_made (number_between value least_grades most_grades) _ next e in
       let b = bounds least_grades most_grades m.0 (omega arith) m.1.0 in
       let some : 0 + 1 < m.0 = omega (arith, b.0) in
-      subst Sound m.1.1 (put_sound r RowDue 0 (with_grades m.0 (opened_unit r)) h u-kept (put (λ v. Graded 0 v × (0 + 1 < v.grades)) (with_grades m.0 (opened_unit r)) ((b.0, b.1, (λ g low high. absurd (omega arith)), now), some)))
-  sound-at RowDue now e =
+      subst Sound m.1.1 (put_sound r RowDue 0 (with_grades m.0 (opened_unit r)) h u_kept (put (λ v. Graded 0 v × (0 + 1 < v.grades)) (with_grades m.0 (opened_unit r)) ((b.0, b.1, (λ g low high. absurd (omega arith)), now), some)))
+  sound_at RowDue now e =
       let m = on_made (row_of value (opened_unit r).grades r.row) _ next e in
-      subst Sound m.1.1 (behind-row-sound m.0 (eqb (r.row + 1 + 1) (opened_unit r).grades) now m.1.0 refl)
-  sound-at PlannedDue now e =
+      subst Sound m.1.1 (behind_row_sound m.0 (eqb (r.row + 1 + 1) (opened_unit r).grades) now m.1.0 refl)
+  sound_at PlannedDue now e =
       let m = on_made (number_between value 0 most_charge) _ next e in
       let b = bounds 0 most_charge m.0 (omega arith) m.1.0 in
-      subst Sound m.1.1 (put_sound r ForcedDue r.row (with_planned m.0 (opened_unit r)) h (u-kept.0, (b.1, u-kept.1.1, u-kept.1.2)) (put WhollyGraded (with_planned m.0 (opened_unit r)) now))
-  sound-at ForcedDue now e =
+      subst Sound m.1.1 (put_sound r ForcedDue r.row (with_planned m.0 (opened_unit r)) h (u_kept.0, (b.1, u_kept.1.1, u_kept.1.2)) (put WhollyGraded (with_planned m.0 (opened_unit r)) now))
+  sound_at ForcedDue now e =
       let m = on_made (number_between value 0 most_charge) _ next e in
       let b = bounds 0 most_charge m.0 (omega arith) m.1.0 in
-      subst Sound m.1.1 (put_sound r DarkDue r.row (with_forced m.0 (opened_unit r)) h (u-kept.0, (u-kept.1.0, b.1, u-kept.1.2)) (put WhollyGraded (with_forced m.0 (opened_unit r)) now))
-  sound-at DarkDue now e =
+      subst Sound m.1.1 (put_sound r DarkDue r.row (with_forced m.0 (opened_unit r)) h (u_kept.0, (u_kept.1.0, b.1, u_kept.1.2)) (put WhollyGraded (with_forced m.0 (opened_unit r)) now))
+  sound_at DarkDue now e =
       let m = on_made (number_between value 0 most_dark) _ next e in
       let b = bounds 0 most_dark m.0 (omega arith) m.1.0 in
-      subst Sound m.1.1 (behind-unit-sound r.opened m.0 refl now b.1)
-  sound-at EndDue now e =
+      subst Sound m.1.1 (behind_unit_sound r.opened m.0 refl now b.1)
+  sound_at EndDue now e =
       let m = word_made value _ (at_stage Complete r) next e in
       subst Sound m.1 (same_sound r (at_stage Complete r) h h.threshold h.setup h.inspect refl refl now)
-  sound-at Complete now e = let z : ◌≡◌ {A = ℕ} 0 1 = cc in absurd (omega arith)
+  sound_at Complete now e = let z : ◌≡◌ {A = ℕ} 0 1 = cc in absurd (omega arith)
 
 -- a step that was made: its key was due
 pub due_made : (t : Bool) (taken : Step) (next : PairReader) → cond t taken (Err Unexpected) ≡ Ok next → (t ≡ true) × (taken ≡ Ok next)
@@ -195,7 +195,7 @@ due_made true taken next e = (refl, e)
 due_made false taken next e = let z : ◌≡◌ {A = ℕ} 0 1 = cc in absurd (omega arith)
 
 pub step_sound : (r next : PairReader) (key : Key) (value : List ℕ) → Sound r → pair_step r key value ≡ Ok next → Sound next
-step_sound r next key value h e = sound-at r h value next r.stage h.here (due_made (is_due r.stage key) (take_at r.stage r value) next e).1
+step_sound r next key value h e = sound_at r h value next r.stage h.here (due_made (is_due r.stage key) (take_at r.stage r value) next e).1
 
 -- nothing was read, so nothing is out of range
 pub fresh_sound : Sound fresh

@@ -49,22 +49,22 @@ abbrev pub Goes : PairReader → List ℕ → ℕ → Reading → Type 0
 Goes r text place g = (fuel : ℕ) × ((length text < fuel) × (read_from fuel r text place ≡ g))
 
 module _ (r : PairReader) (text : List ℕ) (place : ℕ) (g : Reading) where
-  pub goes-fault : (n : ℕ) → fault n ≡ line_at text → Goes r text place g → g ≡ record { answer = refused_at (fault_rule n) (place + 1); rest = text; place = place }
-  goes-fault n e (zero, h) = absurd (omega (arith, h.0))
-  goes-fault n e (suc fuel, h) = sym h.1 ∙ ap (on_line (read_from fuel) r text place) (sym e)
+  pub goes_fault : (n : ℕ) → fault n ≡ line_at text → Goes r text place g → g ≡ record { answer = refused_at (fault_rule n) (place + 1); rest = text; place = place }
+  goes_fault n e (zero, h) = absurd (omega (arith, h.0))
+  goes_fault n e (suc fuel, h) = sym h.1 ∙ ap (on_line (read_from fuel) r text place) (sym e)
 
   module _ (k v : List ℕ) (line : pair k v ≡ line_at text) where
     -- the line is judged
     goes_step : (s : Step) → pair_step r (key_of k) v ≡ s → (fuel : ℕ) → read_from (suc fuel) r text place ≡ g → on_step (read_from fuel) s (rest_at text) (place + 1) ≡ g
     goes_step s e fuel h = ap (λ t. on_step (read_from fuel) t (rest_at text) (place + 1)) (sym e) ∙ ap (on_line (read_from fuel) r text place) line ∙ h
 
-    pub goes-refused : (rule : Rule) → pair_step r (key_of k) v ≡ Err rule → Goes r text place g → g ≡ record { answer = refused_at rule (place + 1); rest = rest_at text; place = place + 1 }
-    goes-refused rule e (zero, h) = absurd (omega (arith, h.0))
-    goes-refused rule e (suc fuel, h) = sym (goes_step (Err rule) e fuel h.1)
+    pub goes_refused : (rule : Rule) → pair_step r (key_of k) v ≡ Err rule → Goes r text place g → g ≡ record { answer = refused_at rule (place + 1); rest = rest_at text; place = place + 1 }
+    goes_refused rule e (zero, h) = absurd (omega (arith, h.0))
+    goes_refused rule e (suc fuel, h) = sym (goes_step (Err rule) e fuel h.1)
 
-    pub goes-closed : (next : PairReader) → pair_step r (key_of k) v ≡ Ok next → complete next.stage ≡ true → Goes r text place g → g ≡ record { answer = judged (numbers_read next) (place + 1); rest = rest_at text; place = place + 1 }
-    goes-closed next e c (zero, h) = absurd (omega (arith, h.0))
-    goes-closed next e c (suc fuel, h) = sym (goes_step (Ok next) e fuel h.1) ∙ cond-true _ _ _ c
+    pub goes_closed : (next : PairReader) → pair_step r (key_of k) v ≡ Ok next → complete next.stage ≡ true → Goes r text place g → g ≡ record { answer = judged (numbers_read next) (place + 1); rest = rest_at text; place = place + 1 }
+    goes_closed next e c (zero, h) = absurd (omega (arith, h.0))
+    goes_closed next e c (suc fuel, h) = sym (goes_step (Ok next) e fuel h.1) ∙ cond-true _ _ _ c
 
     pub goes_on : (next : PairReader) → pair_step r (key_of k) v ≡ Ok next → complete next.stage ≡ false → Goes r text place g → Goes next (rest_at text) (place + 1) g
     goes_on next e c (zero, h) = absurd (omega (arith, h.0))

@@ -8,5 +8,5 @@ module _ {A B : Type 0} (f : A → B) (z : B) where
       ap (map f) (take_more_set xs i y l) ∙ map_push f (take i xs) y
       ∙ ap (λ w. w ++ f y ∷ []) h ∙ ap (λ w. replicate i z ++ w ∷ []) e ∙ replicate_more i z
 
-  pub fill-all : (xs : List A) (i n : ℕ) → length xs ≤ i → i ≡ n → map f (take i xs) ≡ replicate i z → map f xs ≡ replicate n z
-  fill-all xs i n l e h = sym (ap (map f) (take_all i xs l)) ∙ h ∙ ap (λ k. replicate k z) e
+  pub fill_all : (xs : List A) (i n : ℕ) → length xs ≤ i → i ≡ n → map f (take i xs) ≡ replicate i z → map f xs ≡ replicate n z
+  fill_all xs i n l e h = sym (ap (map f) (take_all i xs l)) ∙ h ∙ ap (λ k. replicate k z) e

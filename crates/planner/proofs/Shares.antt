@@ -7,7 +7,7 @@ use Rattle.interface.specs.Plants.{Model, Lawful}
 use Rattle.interface.specs.Rows.{Row, zeros, share, reach}
 use Rattle.interface.specs.Tariffs.{Scale, LawfulScale}
 use Rattle.lookahead.specs.Gains.{value_of, look_ahead, Within}
-use Rattle.lookahead.proofs.Bounds.{EachFit, ahead-reach}
+use Rattle.lookahead.proofs.Bounds.{EachFit, ahead_reach}
 use Rattle.certificate.proofs.Claiming.{feasible_of}
 use Rattle.planner.specs.Sweeps.{Shared}
 
@@ -23,14 +23,14 @@ pub shared_reach : (m : Model) (lawful : Lawful m) (t : Scale) (scaled : LawfulS
     → (s : ℕ) (u : Row) → Shared m t vs s u → reach u ≤ 11000000000000000
 shared_reach m lawful t scaled vs within fit s u shared =
     let of = feasible_of m (look_ahead m t vs) s shared.at shared.ahead shared.least.there in
-    let near = subst (λ w. reach w ≤ 11000000000000000) (sym of.1) (ahead-reach m lawful t scaled vs within fit s shared.at of.0) in
+    let near = subst (λ w. reach w ≤ 11000000000000000) (sym of.1) (ahead_reach m lawful t scaled vs within fit s shared.at of.0) in
     let small = share_reach shared.ahead in
     subst (λ w. reach w ≤ 11000000000000000) (sym shared.is) (omega arith)
 
 module _ {A : Type 0} (row : A → Row) (t : Scale) (ws : List A) (s : ℕ) (v : A) where
-  pub written-here : s < length ws → value_of t (map row (set ws s v)) s ≡ row v
-  written-here l =
+  pub written_here : s < length ws → value_of t (map row (set ws s v)) s ≡ row v
+  written_here l =
       ap (λ w. value_of t w s) (map-set row ws s v) ∙ get_or-set_same (map row ws) s (row v) (zeros t.places) (subst (λ n. s < n) (sym (length-map ws row)) l)
 
-  pub written-elsewhere : (k : ℕ) → k ≢ s → value_of t (map row (set ws s v)) k ≡ value_of t (map row ws) k
-  written-elsewhere k d = ap (λ w. value_of t w k) (map-set row ws s v) ∙ get_or-set_other (map row ws) s k (row v) (zeros t.places) d
+  pub written_elsewhere : (k : ℕ) → k ≢ s → value_of t (map row (set ws s v)) k ≡ value_of t (map row ws) k
+  written_elsewhere k d = ap (λ w. value_of t w k) (map-set row ws s v) ∙ get_or-set_other (map row ws) s k (row v) (zeros t.places) d

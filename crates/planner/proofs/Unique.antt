@@ -20,19 +20,19 @@ chosen_row good f n p q a b = ⊎_elim
     (cases_order p.at q.at)
 
 module _ (m : Model) (t : Scale) where
-  shared-one : (vs : List Row) (s : ℕ) (u v : Row) → Shared m t vs s u → Shared m t vs s v → u ≡ v
-  shared-one vs s u v a b = a.is ∙ ap share (chosen_row _ _ m.portfolios (record { at = a.at; row = a.ahead }) (record { at = b.at; row = b.ahead }) a.least b.least) ∙ sym b.is
+  shared_one : (vs : List Row) (s : ℕ) (u v : Row) → Shared m t vs s u → Shared m t vs s v → u ≡ v
+  shared_one vs s u v a b = a.is ∙ ap share (chosen_row _ _ m.portfolios (record { at = a.at; row = a.ahead }) (record { at = b.at; row = b.ahead }) a.least b.least) ∙ sym b.is
 
-  new-one : (vs : List Row) (s : ℕ) (u v : Row) → NewValue m t vs s u → NewValue m t vs s v → u ≡ v
-  new-one vs s u v a b =
-      a.is ∙ ap (λ w. minus w a.base) (shared-one vs s a.own b.own a.own_is b.own_is)
-      ∙ ap (minus b.own) (shared-one vs 0 a.base b.base a.base_is b.base_is) ∙ sym b.is
+  new_one : (vs : List Row) (s : ℕ) (u v : Row) → NewValue m t vs s u → NewValue m t vs s v → u ≡ v
+  new_one vs s u v a b =
+      a.is ∙ ap (λ w. minus w a.base) (shared_one vs s a.own b.own a.own_is b.own_is)
+      ∙ ap (minus b.own) (shared_one vs 0 a.base b.base a.base_is b.base_is) ∙ sym b.is
 
-  sweep-one : (vs us ws : List Row) → Sweep m t vs us → Sweep m t vs ws → us ≡ ws
-  sweep-one vs us ws a b = ext_get_or (zeros t.places) us ws (a.long ∙ sym b.long)
-      (λ s l. let inside : s < m.states = omega (arith, a.long) in new-one vs s _ _ (a.each s inside) (b.each s inside))
+  sweep_one : (vs us ws : List Row) → Sweep m t vs us → Sweep m t vs ws → us ≡ ws
+  sweep_one vs us ws a b = ext_get_or (zeros t.places) us ws (a.long ∙ sym b.long)
+      (λ s l. let inside : s < m.states = omega (arith, a.long) in new_one vs s _ _ (a.each s inside) (b.each s inside))
 
-  pub swept-one : {k : ℕ} {us ws : List Row} → Swept m t k us → Swept m t k ws → us ≡ ws
-  swept-one start start = refl
-  swept-one (more {vs = vs} {ws = us} a p x) (more {vs = vs'} {ws = ws} b q y) =
-      sweep-one vs us ws p (subst (λ w. Sweep m t w ws) (sym (swept-one a b)) q)
+  pub swept_one : {k : ℕ} {us ws : List Row} → Swept m t k us → Swept m t k ws → us ≡ ws
+  swept_one start start = refl
+  swept_one (more {vs = vs} {ws = us} a p x) (more {vs = vs'} {ws = ws} b q y) =
+      sweep_one vs us ws p (subst (λ w. Sweep m t w ws) (sym (swept_one a b)) q)

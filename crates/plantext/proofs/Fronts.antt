@@ -111,8 +111,8 @@ map_map f g (x ∷ xs) = ap (λ t. f (g x) ∷ t) (map_map f g xs)
 
 module _ (places n : ℕ) (whole : List ℕ) (total : Option PlanRefusal) (j : ℕ) (text k v : List ℕ) (said : line_at text ≡ pair k v) where
   -- what is said of the lines behind a good one
-  faults-behind : (due : Stage) (dues behind : List Stage) → dues ≡ due ∷ behind → pair_fault places (Some due) k v ≡ None → first_fault places dues j text ≡ total → first_fault places behind (j + 1) (rest_at text) ≡ total
-  faults-behind due dues behind more good h =
+  faults_behind : (due : Stage) (dues behind : List Stage) → dues ≡ due ∷ behind → pair_fault places (Some due) k v ≡ None → first_fault places dues j text ≡ total → first_fault places behind (j + 1) (rest_at text) ≡ total
+  faults_behind due dues behind more good h =
       sym (ap (λ ds. first_fault places ds j text) more
       ∙ ap (λ s. at_line j (line_fault places (Some due) s) (first_fault places behind (j + 1) (rest_at text))) said
       ∙ ap (λ f. at_line j f (first_fault places behind (j + 1) (rest_at text))) good)
@@ -128,7 +128,7 @@ module _ (places n : ℕ) (whole : List ℕ) (total : Option PlanRefusal) (j : �
         let g = good_line places Low k v good in
         let u = amount_back places (fields v) b.plan.low t.said in
         record {
-          faults = faults-behind Low (stages_behind n) _ refl good h.faults;
+          faults = faults_behind Low (stages_behind n) _ refl good h.faults;
           inside = tt;
           values_long = ap length t.values ∙ h.values_long;
           policy_long = ap length t.policy ∙ h.policy_long;
@@ -136,13 +136,13 @@ module _ (places n : ℕ) (whole : List ℕ) (total : Option PlanRefusal) (j : �
           right = u.1;
         }
 
-    high-step : 1 ≤ n → SoFar places n whole total (Some High) a.plan j text → pair_fault places (Some High) k v ≡ None → TakesHigh places v a b → SoFar places n whole total (Some (Row 0)) b.plan (j + 1) (rest_at text)
-    high-step some h good t =
+    high_step : 1 ≤ n → SoFar places n whole total (Some High) a.plan j text → pair_fault places (Some High) k v ≡ None → TakesHigh places v a b → SoFar places n whole total (Some (Row 0)) b.plan (j + 1) (rest_at text)
+    high_step some h good t =
         let g = good_line places High k v good in
         let u = amount_back places (fields v) b.plan.high t.said in
         let all : n - 0 ≡ n = omega arith in
         record {
-          faults = faults-behind High _ _ (ap (λ m. High ∷ (map Row (range_with_len 0 m) ++ (End ∷ []))) (sym all)) good h.faults;
+          faults = faults_behind High _ _ (ap (λ m. High ∷ (map Row (range_with_len 0 m) ++ (End ∷ []))) (sym all)) good h.faults;
           inside = some;
           values_long = ap length t.values ∙ h.values_long;
           policy_long = ap length t.policy ∙ h.policy_long;
@@ -154,7 +154,7 @@ module _ (places n : ℕ) (whole : List ℕ) (total : Option PlanRefusal) (j : �
     end_step h good t =
         let g = good_line places End k v good in
         subst (λ p. SoFar places n whole total None p (j + 1) (rest_at text)) (sym t.plan) (record {
-          faults = faults-behind End (End ∷ []) [] refl good h.faults;
+          faults = faults_behind End (End ∷ []) [] refl good h.faults;
           inside = tt;
           values_long = h.values_long;
           policy_long = h.policy_long;
@@ -163,80 +163,80 @@ module _ (places n : ℕ) (whole : List ℕ) (total : Option PlanRefusal) (j : �
         })
 
     module _ (s : ℕ) (h : SoFar places n whole total (Some (Row s)) a.plan j text) (good : pair_fault places (Some (Row s)) k v ≡ None) (t : TakesRow places s v a b) where
-      row-faults : first_fault places (map Row (range_with_len (s + 1) (n - (s + 1))) ++ (End ∷ [])) (j + 1) (rest_at text) ≡ total
-      row-faults =
+      row_faults : first_fault places (map Row (range_with_len (s + 1) (n - (s + 1))) ++ (End ∷ [])) (j + 1) (rest_at text) ≡ total
+      row_faults =
           let left : n - s ≡ suc (n - (s + 1)) = omega (arith, h.inside) in
-          faults-behind (Row s) _ _ (ap (λ m. map Row (range_with_len s m) ++ (End ∷ [])) left) good h.faults
+          faults_behind (Row s) _ _ (ap (λ m. map Row (range_with_len s m) ++ (End ∷ [])) left) good h.faults
 
       entered_here : Entered places s (fields v) (record { portfolio = t.portfolio; value = t.value })
       entered_here = entry_back places s (fields v) _ t.said
 
-      value-here : get_or b.plan.values s [] ≡ t.value
-      value-here = ap (λ xs. get_or xs s []) t.values ∙ get_or-set_same a.plan.values s t.value [] (omega (arith, h.inside, h.values_long))
+      value_here : get_or b.plan.values s [] ≡ t.value
+      value_here = ap (λ xs. get_or xs s []) t.values ∙ get_or-set_same a.plan.values s t.value [] (omega (arith, h.inside, h.values_long))
 
-      portfolio-here : get_or b.plan.policy s 0 ≡ t.portfolio
-      portfolio-here = ap (λ xs. get_or xs s 0) t.policy ∙ get_or-set_same a.plan.policy s t.portfolio 0 (omega (arith, h.inside, h.policy_long))
+      portfolio_here : get_or b.plan.policy s 0 ≡ t.portfolio
+      portfolio_here = ap (λ xs. get_or xs s 0) t.policy ∙ get_or-set_same a.plan.policy s t.portfolio 0 (omega (arith, h.inside, h.policy_long))
 
       value_before : (i : ℕ) → i < s → get_or b.plan.values i [] ≡ get_or a.plan.values i []
       value_before i l = let other : i ≢ s = omega arith in ap (λ xs. get_or xs i []) t.values ∙ get_or-set_other a.plan.values s i t.value [] other
 
-      portfolio-before : (i : ℕ) → i < s → get_or b.plan.policy i 0 ≡ get_or a.plan.policy i 0
-      portfolio-before i l = let other : i ≢ s = omega arith in ap (λ xs. get_or xs i 0) t.policy ∙ get_or-set_other a.plan.policy s i t.portfolio 0 other
+      portfolio_before : (i : ℕ) → i < s → get_or b.plan.policy i 0 ≡ get_or a.plan.policy i 0
+      portfolio_before i l = let other : i ≢ s = omega arith in ap (λ xs. get_or xs i 0) t.policy ∙ get_or-set_other a.plan.policy s i t.portfolio 0 other
 
-      values-kept : length b.plan.values ≡ length a.plan.values
-      values-kept = ap length t.values ∙ length-set a.plan.values s t.value
+      values_kept : length b.plan.values ≡ length a.plan.values
+      values_kept = ap length t.values ∙ length-set a.plan.values s t.value
 
       rows_more : Rows places b.plan (s + 1)
       rows_more = below_more (λ i. Held places (get_or b.plan.values i []) × (get_or b.plan.policy i 0 ≤ most_portfolio)) s
-          (λ i l. let was = h.right.1.1 i l in (subst (Held places) (sym (value_before i l)) was.0, subst (λ x. x ≤ most_portfolio) (sym (portfolio-before i l)) was.1))
-          (subst (Held places) (sym value-here) entered_here.held, subst (λ x. x ≤ most_portfolio) (sym portfolio-here) entered_here.low)
+          (λ i l. let was = h.right.1.1 i l in (subst (Held places) (sym (value_before i l)) was.0, subst (λ x. x ≤ most_portfolio) (sym (portfolio_before i l)) was.1))
+          (subst (Held places) (sym value_here) entered_here.held, subst (λ x. x ≤ most_portfolio) (sym portfolio_here) entered_here.low)
 
-      same-before : map (stage_line a.plan) (before n (Some (Row s))) ≡ map (stage_line b.plan) (before n (Some (Row s)))
-      same-before =
-          let long = sym values-kept in
+      same_before : map (stage_line a.plan) (before n (Some (Row s))) ≡ map (stage_line b.plan) (before n (Some (Row s)))
+      same_before =
+          let long = sym values_kept in
           let low = sym t.low in
           let high = sym t.high in
           let rows : map (stage_line a.plan) (map Row (range_with_len 0 s)) ≡ map (stage_line b.plan) (map Row (range_with_len 0 s)) =
           map_map (stage_line a.plan) Row (range_with_len 0 s)
-          ∙ same_rows (λ i. stage_line a.plan (Row i)) (λ i. stage_line b.plan (Row i)) 0 s (λ i l m. let below : i < s = omega arith in let xs = sym (portfolio-before i below) in let us = sym (value_before i below) in λ d. row_line i (xs d) (us d))
+          ∙ same_rows (λ i. stage_line a.plan (Row i)) (λ i. stage_line b.plan (Row i)) 0 s (λ i l m. let below : i < s = omega arith in let xs = sym (portfolio_before i below) in let us = sym (value_before i below) in λ d. row_line i (xs d) (us d))
           ∙ sym (map_map (stage_line b.plan) Row (range_with_len 0 s)) in
           λ i. states_line (long i) ∷ (low_line (low i) ∷ (high_line (high i) ∷ rows i))
 
-      row-text : text ≡ stage_line b.plan (Row s) ++ rest_at text
-      row-text =
+      row_text : text ≡ stage_line b.plan (Row s) ++ rest_at text
+      row_text =
           let g = good_line places (Row s) k v good in
-          let x = sym portfolio-here in
-          let u = sym value-here in
+          let x = sym portfolio_here in
+          let u = sym value_here in
           cut_at (Row s) b.plan _ _ g.key (sym (joined_fields v) ∙ ap joined entered_here.fields_are) (λ i. row_line s (x i) (u i))
 
-      front-row : (ts : List Stage) → ts ≡ before n (Some (Row s)) ++ (Row s ∷ []) → whole ≡ concat (map (stage_line b.plan) ts) ++ rest_at text
-      front-row ts more = front_more a.plan b.plan (before n (Some (Row s))) ts (Row s) whole text (rest_at text) more same-before h.text row-text
+      front_row : (ts : List Stage) → ts ≡ before n (Some (Row s)) ++ (Row s ∷ []) → whole ≡ concat (map (stage_line b.plan) ts) ++ rest_at text
+      front_row ts more = front_more a.plan b.plan (before n (Some (Row s))) ts (Row s) whole text (rest_at text) more same_before h.text row_text
 
-      held-row : Held places b.plan.low × (Held places b.plan.high × Rows places b.plan (s + 1))
-      held-row = (subst (Held places) (sym t.low) h.right.0, (subst (Held places) (sym t.high) h.right.1.0, rows_more))
+      held_row : Held places b.plan.low × (Held places b.plan.high × Rows places b.plan (s + 1))
+      held_row = (subst (Held places) (sym t.low) h.right.0, (subst (Held places) (sym t.high) h.right.1.0, rows_more))
 
-      counted-more : States ∷ (Low ∷ (High ∷ map Row (range_with_len 0 (s + 1)))) ≡ before n (Some (Row s)) ++ (Row s ∷ [])
-      counted-more = ap (λ z. States ∷ (Low ∷ (High ∷ z))) (map-range_with_len_more Row 0 s s (omega arith))
+      counted_more : States ∷ (Low ∷ (High ∷ map Row (range_with_len 0 (s + 1)))) ≡ before n (Some (Row s)) ++ (Row s ∷ [])
+      counted_more = ap (λ z. States ∷ (Low ∷ (High ∷ z))) (map-range_with_len_more Row 0 s s (omega arith))
 
       row_step : (c : Bool) → ltb (s + 1) n ≡ c → SoFar places n whole total (Some (cond c (Row (s + 1)) End)) b.plan (j + 1) (rest_at text)
       row_step true e = record {
-        faults = row-faults;
+        faults = row_faults;
         inside = ltb-true _ _ e;
-        values_long = values-kept ∙ h.values_long;
+        values_long = values_kept ∙ h.values_long;
         policy_long = ap length t.policy ∙ length-set a.plan.policy s t.portfolio ∙ h.policy_long;
-        text = front-row _ counted-more;
-        right = held-row;
+        text = front_row _ counted_more;
+        right = held_row;
       }
       row_step false e =
           let last : s + 1 ≡ n = omega (arith, ltb-false _ _ e, h.inside) in
           let none : n - (s + 1) ≡ 0 = omega arith in
           record {
-            faults = sym (ap (λ m. first_fault places (map Row (range_with_len (s + 1) m) ++ (End ∷ [])) (j + 1) (rest_at text)) none) ∙ row-faults;
+            faults = sym (ap (λ m. first_fault places (map Row (range_with_len (s + 1) m) ++ (End ∷ [])) (j + 1) (rest_at text)) none) ∙ row_faults;
             inside = tt;
-            values_long = values-kept ∙ h.values_long;
+            values_long = values_kept ∙ h.values_long;
             policy_long = ap length t.policy ∙ length-set a.plan.policy s t.portfolio ∙ h.policy_long;
-            text = front-row _ (ap (λ m. States ∷ (Low ∷ (High ∷ map Row (range_with_len 0 m)))) (sym last) ∙ counted-more);
-            right = subst (λ m. Held places b.plan.low × (Held places b.plan.high × Rows places b.plan m)) last held-row;
+            text = front_row _ (ap (λ m. States ∷ (Low ∷ (High ∷ map Row (range_with_len 0 m)))) (sym last) ∙ counted_more);
+            right = subst (λ m. Held places b.plan.low × (Held places b.plan.high × Rows places b.plan m)) last held_row;
           }
 
     -- one line more
@@ -244,7 +244,7 @@ module _ (places n : ℕ) (whole : List ℕ) (total : Option PlanRefusal) (j : �
     line_step None some any h good t = absurd t
     line_step (Some States) some any h good t = absurd h.right
     line_step (Some Low) some any h good t = subst (λ d. SoFar places n whole total d b.plan (j + 1) (rest_at text)) (sym t.next) (low_step some h good t)
-    line_step (Some High) some any h good t = subst (λ d. SoFar places n whole total d b.plan (j + 1) (rest_at text)) (sym t.next) (high-step any h good t)
+    line_step (Some High) some any h good t = subst (λ d. SoFar places n whole total d b.plan (j + 1) (rest_at text)) (sym t.next) (high_step any h good t)
     line_step (Some (Row s)) some any h good t =
         subst (λ d. SoFar places n whole total d b.plan (j + 1) (rest_at text)) (sym (t.next ∙ ap (λ m. Some (after_row m s)) h.values_long)) (row_step s h good t (ltb (s + 1) n) refl)
     line_step (Some End) some any h good t = subst (λ d. SoFar places n whole total d b.plan (j + 1) (rest_at text)) (sym t.next) (end_step h good t)

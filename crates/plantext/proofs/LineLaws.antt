@@ -24,14 +24,14 @@ row_stages n = map Row (range_with_len 0 n) ++ (End ∷ [])
 
 -- the same from the row of state s on, with n rows
 module _ where
-  pub row-stage : (s n i : ℕ) → i < n → slice_get (map Row (range_with_len s n) ++ (End ∷ [])) i ≡ Some (Row (s + i))
-  row-stage s zero i l = absurd (omega arith)
-  row-stage s (suc n) zero l = ap (λ k. Some (Row k)) (sym (add-zero s))
-  row-stage s (suc n) (suc i) l = row-stage (s + 1) n i (omega arith) ∙ ap (λ k. Some (Row k)) (omega arith)
+  pub row_stage : (s n i : ℕ) → i < n → slice_get (map Row (range_with_len s n) ++ (End ∷ [])) i ≡ Some (Row (s + i))
+  row_stage s zero i l = absurd (omega arith)
+  row_stage s (suc n) zero l = ap (λ k. Some (Row k)) (sym (add-zero s))
+  row_stage s (suc n) (suc i) l = row_stage (s + 1) n i (omega arith) ∙ ap (λ k. Some (Row k)) (omega arith)
 
-  pub end-stage : (s n : ℕ) → slice_get (map Row (range_with_len s n) ++ (End ∷ [])) n ≡ Some End
-  end-stage s zero = refl
-  end-stage s (suc n) = end-stage (s + 1) n
+  pub end_stage : (s n : ℕ) → slice_get (map Row (range_with_len s n) ++ (End ∷ [])) n ≡ Some End
+  end_stage s zero = refl
+  end_stage s (suc n) = end_stage (s + 1) n
 
   pub no_stage : (s n i : ℕ) → n < i → slice_get (map Row (range_with_len s n) ++ (End ∷ [])) i ≡ None
   no_stage s zero zero l = absurd (omega arith)
@@ -52,8 +52,8 @@ pub put_front : {l s t : List ℕ} {e : ℕ} → Put l 0 s t e → take (e - 0) 
 put_front {l} {s} {t} {e} p = ap (take (e - 0)) p.after ∙ placed_between l s 0 e p.ends
 
 module _ (p : Plan) (j : ℕ) (space : List ℕ) where
-  pub not-level : level (length p.values) (length p.policy) ≡ false → AnswersLine p j space space (Err WrongLength)
-  not-level h = record { answer = sym (ap (λ t. line_answer t (slice_get (plan_lines p) j) space) h); after = sym (ap (λ t. line_space t (slice_get (plan_lines p) j) space) h) }
+  pub not_level : level (length p.values) (length p.policy) ≡ false → AnswersLine p j space space (Err WrongLength)
+  not_level h = record { answer = sym (ap (λ t. line_answer t (slice_get (plan_lines p) j) space) h); after = sym (ap (λ t. line_space t (slice_get (plan_lines p) j) space) h) }
 
   module _ (h : level (length p.values) (length p.policy) ≡ true) where
     -- a line of the plan, or none, as the tables are level
@@ -63,18 +63,18 @@ module _ (p : Plan) (j : ℕ) (space : List ℕ) where
       after = b ∙ sym (ap (λ t. line_space t (slice_get (plan_lines p) j) space) h ∙ ap (λ z. line_space true z space) is);
     }
 
-    pub past-last : slice_get (plan_lines p) j ≡ None → AnswersLine p j space space (Ok None)
-    past-last is = told None is refl refl
+    pub past_last : slice_get (plan_lines p) j ≡ None → AnswersLine p j space space (Ok None)
+    past_last is = told None is refl refl
 
-    pub line-written : (l space' : List ℕ) (e : ℕ) → slice_get (plan_lines p) j ≡ Some l → end_of l 0 space ≡ Some e → space' ≡ placed l 0 space → AnswersLine p j space space' (Ok (Some e))
-    line-written l space' e is ends after = told (Some l) is (roomy (fits l 0 space) ends) after
+    pub line_written : (l space' : List ℕ) (e : ℕ) → slice_get (plan_lines p) j ≡ Some l → end_of l 0 space ≡ Some e → space' ≡ placed l 0 space → AnswersLine p j space space' (Ok (Some e))
+    line_written l space' e is ends after = told (Some l) is (roomy (fits l 0 space) ends) after
       where
         roomy : (t : Bool) → cond t (Some (0 + length l)) None ≡ Some e → Ok (Some e) ≡ cond t (Ok (Some (length l))) (Err NoSpace)
         roomy true q = let same : 0 + length l ≡ e = cc in let none : 0 + length l ≡ length l = omega arith in cc
         roomy false q = let z : ◌≡◌ {A = ℕ} 0 1 = cc in absurd (omega arith)
 
-    pub line-too-long : (l space' : List ℕ) → slice_get (plan_lines p) j ≡ Some l → end_of l 0 space ≡ None → space' ≡ placed l 0 space → AnswersLine p j space space' (Err NoSpace)
-    line-too-long l space' is ends after = told (Some l) is (full (fits l 0 space) ends) after
+    pub line_too_long : (l space' : List ℕ) → slice_get (plan_lines p) j ≡ Some l → end_of l 0 space ≡ None → space' ≡ placed l 0 space → AnswersLine p j space space' (Err NoSpace)
+    line_too_long l space' is ends after = told (Some l) is (full (fits l 0 space) ends) after
       where
         full : (t : Bool) → cond t (Some (0 + length l)) None ≡ None → Err NoSpace ≡ cond t (Ok (Some (length l))) (Err NoSpace)
         full true q = let z : ◌≡◌ {A = ℕ} 0 1 = cc in absurd (omega arith)

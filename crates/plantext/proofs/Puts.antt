@@ -9,7 +9,7 @@ use Rattle.std.proofs.lemmas.Bool.{leb-false, le-leb, cond-true}
 use Rattle.lines.specs.Fields.{comma, joined}
 use Rattle.lines.specs.Line.{equals_sign, line_end}
 use Rattle.lines.specs.Placed.{fits, end_of, placed}
-use Rattle.lines.proofs.PlaceLaws.{end_more, placed-more}
+use Rattle.lines.proofs.PlaceLaws.{end_more, placed_more}
 use Rattle.interface.specs.Rows.{Row}
 use Rattle.plantext.specs.Lines.{line, amount}
 use Rattle.plantext.specs.Spaces.{separated, Put}
@@ -36,7 +36,7 @@ put_more {a} {b} {s} {t} {u} {at} {e} {f} p q =
     let second : end_of b e (placed a at s) ≡ Some f = subst (λ z. end_of b e z ≡ Some f) p.after q.ends in
     record {
       ends = sym (end_more a b s at e p.ends) ∙ second;
-      after = q.after ∙ ap (placed b e) p.after ∙ placed-more a b s at e p.ends f second;
+      after = q.after ∙ ap (placed b e) p.after ∙ placed_more a b s at e p.ends f second;
     }
 
 pub number_short : (n : ℕ) → n < 2 ^ 64 → length (decimal n) ≤ 20

@@ -19,16 +19,16 @@ use Rattle.plantext.proofs.ValueLaws.{count_back}
 
 module _ (places n m : ℕ) (a b : Progress) (text k v : List ℕ) (said : line_at text ≡ pair k v) (good : pair_fault places (Some States) k v ≡ None) (t : TakesStates v a b) (values : b.states ≡ n) where
   -- where the tables have the lengths that the first line says, the rest of the text decides
-  pub behind-first : b.states ≡ m → refusal places n m text ≡ first_fault places (stages_behind n) 2 (rest_at text)
-  behind-first policy =
+  pub behind_first : b.states ≡ m → refusal places n m text ≡ first_fault places (stages_behind n) 2 (rest_at text)
+  behind_first policy =
       let judged : (s : Said) → Option PlanRefusal = λ s. at_line 1 (line_fault places (Some States) s) (cond (is n (states_said s) && is m (states_said s)) (first_fault places (stages_behind n) 2 (rest_at text)) (Some WrongLength)) in
       let both : (is n (count_of v) && is m (count_of v)) ≡ true = and_from _ _ (ap (is n) t.said ∙ eq-eqb _ _ values) (ap (is m) t.said ∙ eq-eqb _ _ policy) in
       ap judged said
       ∙ ap (λ f. at_line 1 f (cond (is n (count_of v) && is m (count_of v)) (first_fault places (stages_behind n) 2 (rest_at text)) (Some WrongLength))) good
       ∙ cond-true _ _ _ both
 
-  pub first-line : text ≡ states_line n ++ rest_at text
-  first-line =
+  pub first_line : text ≡ states_line n ++ rest_at text
+  first_line =
       let g = good_line places States k v good in
       let w = count_back v b.states t.said in
       let key = g.key in
@@ -49,8 +49,8 @@ first_told places n m k i a b text text' rest l from due values policy long one 
     let line : 2 ≡ i + 1 = omega arith in
     let same = sym long in
     record {
-      faults = behind-first places n m a b text l.key l.value said good t values policy ∙ (λ d. first_fault places (stages_behind (same d)) (line d) (left d));
-      text_is = first-line places n m a b text l.key l.value said good t values ∙ (λ d. states_line (same d) ++ left d);
+      faults = behind_first places n m a b text l.key l.value said good t values policy ∙ (λ d. first_fault places (stages_behind (same d)) (line d) (left d));
+      text_is = first_line places n m a b text l.key l.value said good t values ∙ (λ d. states_line (same d) ++ left d);
     }
 
 -- lines are refused at their places

@@ -4,7 +4,7 @@ ghost use Rattle.std.specs.Int.Signed.{mag};
 ghost use Rattle.std.specs.List.{slice_get};
 ghost use Rattle.std.specs.Fmt.{signed_decimal};
 ghost use Rattle.lines.specs.Fields.{comma, joined};
-ghost use Rattle.plantext.specs.Lines.{line, amount as amountText, states_line, row_line, end_line, stage_line, Inside, Held};
+ghost use Rattle.plantext.specs.Lines.{line, amount as amount_text, states_line, row_line, end_line, stage_line, Inside, Held};
 ghost use Rattle.lines.specs.Line.{equals_sign};
 ghost use Rattle.plantext.specs.Spaces.{number_room, place_room, amount_room, key_room, line_room, separated, level, Put, AnswersLine, HeldLine, WritesHeld, Tight};
 
@@ -79,7 +79,7 @@ fn put_place(place: i64, i: usize, out: &mut [u8], at: usize) -> usize
 // Writes the places of an amount, with a comma between each two. So each of them has 64 bits.
 fn put_amount<T: Tariff>(tariff: &T, amount: T::Amount, out: &mut [u8], at: usize) -> usize
     requires { at + amount_room ≤ length out.old }
-    ensures text { Put (amountText (T.Tariff.row amount)) at out.old out.new result }
+    ensures text { Put (amount_text (T.Tariff.row amount)) at out.old out.new result }
     ensures short { result ≤ at + amount_room }
     ensures held { Held (T.scale tariff.now).places (T.Tariff.row amount) }
 {
@@ -112,7 +112,7 @@ fn put_states(states: usize, out: &mut [u8]) -> usize
 fn put_claim<T: Tariff>(tariff: &T, key: &[u8], amount: T::Amount, out: &mut [u8]) -> usize
     requires short { length key.now ≤ key_room }
     requires room { line_room ≤ length out.old }
-    ensures text { Put (line key.now (amountText (T.Tariff.row amount))) 0 out.old out.new result }
+    ensures text { Put (line key.now (amount_text (T.Tariff.row amount))) 0 out.old out.new result }
     ensures held { Held (T.scale tariff.now).places (T.Tariff.row amount) }
 {
     let at = put_key(key, out);

@@ -37,31 +37,31 @@ fronted (Some n) None ns e = let z : ◌≡◌ {A = ℕ} 0 1 = cc in absurd (ome
 fronted (Some n) (Some ms) ns e = record { n = n; ms = ms; first = refl; rest = refl; is = cc }
 
 module _ (most : ℕ) (small : most < 2 ^ 64) where
-  numbers-from : (fs : List (List ℕ)) (count : ℕ) (ns : List ℕ) → numbers_of fs most count ≡ Some ns → (fs ≡ map decimal ns) × (length ns ≡ count) × AllByRecursion (λ n. n ≤ most) ns
-  numbers-from [] zero [] e = (refl, refl, tt)
-  numbers-from [] zero (n ∷ ns) e = let z : ◌≡◌ {A = ℕ} 0 1 = cc in absurd (omega arith)
-  numbers-from [] (suc count) ns e = let z : ◌≡◌ {A = ℕ} 0 1 = cc in absurd (omega arith)
-  numbers-from (f ∷ fs) zero ns e = let z : ◌≡◌ {A = ℕ} 0 1 = cc in absurd (omega arith)
-  numbers-from (f ∷ fs) (suc count) ns e =
+  numbers_from : (fs : List (List ℕ)) (count : ℕ) (ns : List ℕ) → numbers_of fs most count ≡ Some ns → (fs ≡ map decimal ns) × (length ns ≡ count) × AllByRecursion (λ n. n ≤ most) ns
+  numbers_from [] zero [] e = (refl, refl, tt)
+  numbers_from [] zero (n ∷ ns) e = let z : ◌≡◌ {A = ℕ} 0 1 = cc in absurd (omega arith)
+  numbers_from [] (suc count) ns e = let z : ◌≡◌ {A = ℕ} 0 1 = cc in absurd (omega arith)
+  numbers_from (f ∷ fs) zero ns e = let z : ◌≡◌ {A = ℕ} 0 1 = cc in absurd (omega arith)
+  numbers_from (f ∷ fs) (suc count) ns e =
       let h = fronted (numeral f most) (numbers_of fs most count) ns e in
       let one = (numeral_law f most small h.n).0 h.first in
-      let more = numbers-from fs count h.ms h.rest in
+      let more = numbers_from fs count h.ms h.rest in
       subst
       (λ l. ((f ∷ fs) ≡ map decimal l) × (length l ≡ suc count) × AllByRecursion (λ n. n ≤ most) l)
       (sym h.is)
       ((λ i. one.0 i ∷ more.0 i), ap suc more.1, (one.1, more.2))
 
-  numbers-back : (ns : List ℕ) → AllByRecursion (λ n. n ≤ most) ns → numbers_of (map decimal ns) most (length ns) ≡ Some ns
-  numbers-back [] h = refl
-  numbers-back (n ∷ ns) h = (λ i. in_front (numeral_decimal n most small h.0 i) (numbers-back ns h.1 i))
+  numbers_back : (ns : List ℕ) → AllByRecursion (λ n. n ≤ most) ns → numbers_of (map decimal ns) most (length ns) ≡ Some ns
+  numbers_back [] h = refl
+  numbers_back (n ∷ ns) h = (λ i. in_front (numeral_decimal n most small h.0 i) (numbers_back ns h.1 i))
 
-  decimals-free : (ns : List ℕ) → AllByRecursion (λ n. n ≤ most) ns → AllByRecursion (Free comma) (map decimal ns)
-  decimals-free [] h = tt
-  decimals-free (n ∷ ns) h = (decimal_free comma (omega arith) n (omega (arith, h.0)), decimals-free ns h.1)
+  decimals_free : (ns : List ℕ) → AllByRecursion (λ n. n ≤ most) ns → AllByRecursion (Free comma) (map decimal ns)
+  decimals_free [] h = tt
+  decimals_free (n ∷ ns) h = (decimal_free comma (omega arith) n (omega (arith, h.0)), decimals_free ns h.1)
 
-  length-decimals : (ns : List ℕ) → length (map decimal ns) ≡ length ns
-  length-decimals [] = refl
-  length-decimals (n ∷ ns) = ap suc (length-decimals ns)
+  length_decimals : (ns : List ℕ) → length (map decimal ns) ≡ length ns
+  length_decimals [] = refl
+  length_decimals (n ∷ ns) = ap suc (length_decimals ns)
 
 some_widened : (x : ℕ) (fs : List (List ℕ)) → 0 < length (widened x fs)
 some_widened x [] = omega arith
@@ -78,13 +78,13 @@ some_field (x ∷ xs) = either (eqb x comma)
 pub list_law : (s : List ℕ) (most count : ℕ) → most < 2 ^ 64 → ReadsList s most count (list_of s most count)
 list_law s most count small ns = (
   (λ e.
-      let h = numbers-from most small (fields s) count ns e in
-      let some : 0 < count = omega (arith, some_field s, ap length h.0, length-decimals most small ns, h.1) in
+      let h = numbers_from most small (fields s) count ns e in
+      let some : 0 < count = omega (arith, some_field s, ap length h.0, length_decimals most small ns, h.1) in
       (sym (joined_fields s) ∙ ap joined h.0, some, h.1, h.2)),
   (λ h.
-      let some : 0 < length (map decimal ns) = omega (arith, length-decimals most small ns, h.1, h.2) in
-      let cut : fields s ≡ map decimal ns = ap fields h.0 ∙ fields_joined (map decimal ns) some (decimals-free most small ns h.3) in
-      ap (λ fs. numbers_of fs most count) cut ∙ ap (numbers_of (map decimal ns) most) (sym h.2) ∙ numbers-back most small ns h.3),
+      let some : 0 < length (map decimal ns) = omega (arith, length_decimals most small ns, h.1, h.2) in
+      let cut : fields s ≡ map decimal ns = ap fields h.0 ∙ fields_joined (map decimal ns) some (decimals_free most small ns h.3) in
+      ap (λ fs. numbers_of fs most count) cut ∙ ap (numbers_of (map decimal ns) most) (sym h.2) ∙ numbers_back most small ns h.3),
 )
 
 -- the same of what was found to be read

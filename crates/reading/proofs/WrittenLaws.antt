@@ -9,7 +9,7 @@ use Rattle.lines.specs.Cuts.{Free}
 use Rattle.lines.specs.Fields.{joined, comma}
 use Rattle.lines.specs.Line.{line_end, equals_sign, pair, printable, line_at, rest_at, Printable, Begins}
 use Rattle.lines.proofs.DigitLaws.{decimal_printable}
-use Rattle.lines.proofs.LineLaws.{begins-line, begins-rest, line_begins}
+use Rattle.lines.proofs.LineLaws.{begins_line, begins_rest, line_begins}
 use Rattle.reading.specs.Keys.{name_of}
 use Rattle.reading.specs.Written.{line_of}
 use Rattle.reading.specs.declared.keys.Key.{Key}
@@ -60,8 +60,8 @@ abbrev pub widest_value : ℕ
 widest_value = 190
 
 module _ (k : Key) (named : k ≡ Other → ⊥) (v more : List ℕ) (bytes : AllByRecursion Printable v) (short : length v ≤ widest_value) where
-  pub line-parts : Begins (line_of k v ++ more) (name_of k) v more
-  line-parts =
+  pub line_parts : Begins (line_of k v ++ more) (name_of k) v more
+  line_parts =
       let parts = and_parts (ltb 0 (length (name_of k)) && leb (length (name_of k)) 9) (all_plain (name_of k)) (names_plain k named) in
       let size = and_parts (ltb 0 (length (name_of k))) (leb (length (name_of k)) 9) parts.0 in
       let name = plain_bytes (name_of k) parts.1 in
@@ -74,11 +74,11 @@ module _ (k : Key) (named : k ≡ Other → ⊥) (v more : List ℕ) (bytes : Al
         short = omega (arith, leb-true (length (name_of k)) 9 size.1, short);
       }
 
-  pub written-line : line_at (line_of k v ++ more) ≡ pair (name_of k) v
-  written-line = begins-line (line_of k v ++ more) (name_of k) v more line-parts
+  pub written_line : line_at (line_of k v ++ more) ≡ pair (name_of k) v
+  written_line = begins_line (line_of k v ++ more) (name_of k) v more line_parts
 
-  pub written-rest : rest_at (line_of k v ++ more) ≡ more
-  written-rest = begins-rest (line_of k v ++ more) (name_of k) v more line-parts
+  pub written_rest : rest_at (line_of k v ++ more) ≡ more
+  written_rest = begins_rest (line_of k v ++ more) (name_of k) v more line_parts
 
 -- a line that was read
 pub read_line : (text name v : List ℕ) (k : Key) → line_at text ≡ pair name v → name ≡ name_of k → text ≡ line_of k v ++ rest_at text
@@ -102,8 +102,8 @@ joined_short w (f ∷ (g ∷ fs)) h =
     omega (arith, suc-mul (length (g ∷ fs)) w, length-append f (comma ∷ joined (g ∷ fs)), joined_short w (g ∷ fs) h.1, h.0)
 
 module _ (most : ℕ) (digits : ℕ) (some : 0 < digits) (small : most < 2 ^ 64) (few : most < 10 ^ digits) where
-  pub list-printable : (ns : List ℕ) → AllByRecursion (λ n. n ≤ most) ns → AllByRecursion Printable (joined (map decimal ns))
-  list-printable ns h = joined_printable (map decimal ns) (each ns h)
+  pub list_printable : (ns : List ℕ) → AllByRecursion (λ n. n ≤ most) ns → AllByRecursion Printable (joined (map decimal ns))
+  list_printable ns h = joined_printable (map decimal ns) (each ns h)
     where
       each : (ns : List ℕ) → AllByRecursion (λ n. n ≤ most) ns → AllByRecursion (AllByRecursion Printable) (map decimal ns)
       each [] h = tt
@@ -113,9 +113,9 @@ module _ (most : ℕ) (digits : ℕ) (some : 0 < digits) (small : most < 2 ^ 64)
   widths [] h = tt
   widths (n ∷ ns) h = (omega (arith, length-decimal-le digits n some (omega (arith, h.0)) (omega (arith, h.0))), widths ns h.1)
 
-  length-decimals : (ns : List ℕ) → length (map decimal ns) ≡ length ns
-  length-decimals [] = refl
-  length-decimals (n ∷ ns) = ap suc (length-decimals ns)
+  length_decimals : (ns : List ℕ) → length (map decimal ns) ≡ length ns
+  length_decimals [] = refl
+  length_decimals (n ∷ ns) = ap suc (length_decimals ns)
 
-  pub list-short : (ns : List ℕ) → AllByRecursion (λ n. n ≤ most) ns → length (joined (map decimal ns)) ≤ length ns * suc digits
-  list-short ns h = subst (λ m. length (joined (map decimal ns)) ≤ m * suc digits) (length-decimals ns) (joined_short (suc digits) (map decimal ns) (widths ns h))
+  pub list_short : (ns : List ℕ) → AllByRecursion (λ n. n ≤ most) ns → length (joined (map decimal ns)) ≤ length ns * suc digits
+  list_short ns h = subst (λ m. length (joined (map decimal ns)) ≤ m * suc digits) (length_decimals ns) (joined_short (suc digits) (map decimal ns) (widths ns h))

@@ -19,8 +19,8 @@ follows (Ok r) f g h = f r h
 follows (Err y) f g h = g h
 
 module _ (text start : List ℕ) (lines : ℕ) (is : start ≡ text) (none : lines ≡ 0) (rest : List ℕ) (place : ℕ) where
-  pub from-chain : (a : Result Chain ReadRefusal) → CountedChain start lines rest place a → ReadsFrom start (chain_numbers a) rest → (r : Reply) → AtChain rest place a r → RepliesToChain text r
-  from-chain a reads law r h = record {
+  pub from_chain : (a : Result Chain ReadRefusal) → CountedChain start lines rest place a → ReadsFrom start (chain_numbers a) rest → (r : Reply) → AtChain rest place a r → RepliesToChain text r
+  from_chain a reads law r h = record {
     answer = a;
     rest = rest;
     place = place;
@@ -29,8 +29,8 @@ module _ (text start : List ℕ) (lines : ℕ) (is : start ≡ text) (none : lin
     replies = h;
   }
 
-  pub from-pair : (a : Result Pair ReadRefusal) → pair_numbers a ≡ (read_pair start lines).answer → rest ≡ (read_pair start lines).rest → place ≡ (read_pair start lines).place → ReadsPair start (pair_numbers a) rest → (r : Reply) → AtPair rest place a r → RepliesToPair text r
-  from-pair a reads left count law r h =
+  pub from_pair : (a : Result Pair ReadRefusal) → pair_numbers a ≡ (read_pair start lines).answer → rest ≡ (read_pair start lines).rest → place ≡ (read_pair start lines).place → ReadsPair start (pair_numbers a) rest → (r : Reply) → AtPair rest place a r → RepliesToPair text r
+  from_pair a reads left count law r h =
       let same : read_pair start lines ≡ read_pair text 0 = ap (λ t. read_pair t lines) is ∙ ap (read_pair text) none in
       record {
         answer = a;
@@ -44,8 +44,8 @@ module _ (text start : List ℕ) (lines : ℕ) (is : start ≡ text) (none : lin
       }
 
   -- a plant with what should follow it
-  pub chain-requested : (c : Chain) → ReadsFrom start (Ok c.numbers) rest → Tail rest → SomeRequest text
-  chain-requested c law t =
+  pub chain_requested : (c : Chain) → ReadsFrom start (Ok c.numbers) rest → Tail rest → SomeRequest text
+  chain_requested c law t =
       let begins = subst (λ s. BeginsChain s c.numbers rest) is ((law c.numbers rest).0 (refl, refl)) in
       record {
         plant = chain_model c.numbers c.least;
@@ -54,8 +54,8 @@ module _ (text start : List ℕ) (lines : ℕ) (is : start ≡ text) (none : lin
         request = record { plant = inl (record { chain = c; begins = subst (BeginsChain text c.numbers) t.whole begins; is = refl }); rate = t.rate; few = t.few };
       }
 
-  pub pair-requested : (p : Pair) → ReadsPair start (Ok p.numbers) rest → Tail rest → SomeRequest text
-  pair-requested p law t =
+  pub pair_requested : (p : Pair) → ReadsPair start (Ok p.numbers) rest → Tail rest → SomeRequest text
+  pair_requested p law t =
       let begins = subst (λ s. BeginsPair s p.numbers rest) is ((law p.numbers rest).0 (refl, refl)) in
       record {
         plant = pair_model p.numbers;

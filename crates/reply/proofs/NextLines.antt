@@ -29,8 +29,8 @@ module _ (m : Model) (text : List ℕ) (place : ℕ) (c : TariffChoice) (read : 
   next = count ∙ ap (λ k. place + k) (used (codes "tariff") tariff_of (place + 1) c (line_at text) read)
 
   -- the sweeps line is next
-  pub at-sweeps : (q : Result SweepsLine ReadRefusal) → q ≡ read_sweeps rest line → AtSweeps m c (rest_at rest) (line + 1) q reply → BehindPlant m text place reply
-  at-sweeps q e h =
+  pub at_sweeps : (q : Result SweepsLine ReadRefusal) → q ≡ read_sweeps rest line → AtSweeps m c (rest_at rest) (line + 1) q reply → BehindPlant m text place reply
+  at_sweeps q e h =
       let there : AtSweeps m c (rest_at rest) (line + 1) (read_sweeps rest line) reply = subst (λ a. AtSweeps m c (rest_at rest) (line + 1) a reply) e h in
       let here : AtSweeps m c (rest_at (rest_at text)) (place + 1 + 1) (read_sweeps (rest_at text) (place + 1)) reply = subst (λ t. AtSweeps m c (rest_at t) (place + 1 + 1) (read_sweeps t (place + 1)) reply) left (subst (λ n. AtSweeps m c (rest_at rest) (n + 1) (read_sweeps rest n) reply) next there) in
       subst (λ a. AtTariff m (rest_at text) (place + 1) a reply) read here
@@ -41,7 +41,7 @@ module _ (m : Model) (text : List ℕ) (place : ℕ) (c : TariffChoice) (read : 
       let k = placed (line + 1) s (at_line (line + 1) (after (value_due (codes "sweeps") (line_at rest)) sweeps_of)) swept in
       let next' : line' ≡ line + 1 = count' ∙ ap (λ k. line + k) (used (codes "sweeps") sweeps_of (line + 1) k.0 (line_at rest) k.1) in
       let ends : read_end rest' line' ≡ read_end (rest_at rest) (line + 1) = ap (λ t. read_end t line') left' ∙ ap (read_end (rest_at rest)) next' in
-      at-sweeps (Ok s) swept (subst (λ a. AtEnd m c s a reply) (e ∙ ends) h)
+      at_sweeps (Ok s) swept (subst (λ a. AtEnd m c s a reply) (e ∙ ends) h)
 
 -- the end of a request that is as it should be: its reply, or want of memory
 pub at_last : {Y : Type 0} (q : Result Reply Y) {P Q : Reply → Type 0} {W : Type 0} → ((r : Reply) → P r → Q r) → W → IfOk q P → MatchResult q Q (λ _. W)

@@ -71,8 +71,8 @@ module _ (p : Plan) (j : ℕ) (space space' : List ℕ) where
         simp (same, least, most)
 
     -- so there is a line, and it is not refused
-    pub not-absent : AnswersLine p j space space' (Ok None) → ⊥
-    not-absent h = absent (slice_get (plan_lines p) j) refl (h.answer ∙ ap (λ t. line_answer t (slice_get (plan_lines p) j) space) levelled)
+    pub not_absent : AnswersLine p j space space' (Ok None) → ⊥
+    not_absent h = absent (slice_get (plan_lines p) j) refl (h.answer ∙ ap (λ t. line_answer t (slice_get (plan_lines p) j) space) levelled)
       where
         absent : (o : Option (List ℕ)) → slice_get (plan_lines p) j ≡ o → Ok None ≡ line_answer true o space → ⊥
         absent None q e = nth_there (plan_lines p) j (omega (arith, lines_long p)) q
@@ -82,9 +82,9 @@ module _ (p : Plan) (j : ℕ) (space space' : List ℕ) where
             tested true e = let z : ◌≡◌ {A = ℕ} 0 1 = cc in omega arith
             tested false e = let z : ◌≡◌ {A = ℕ} 0 1 = cc in omega arith
 
-    pub not-refused : (x : LineRefusal) → AnswersLine p j space space' (Err x) → Tight space (Err x) → ⊥
-    not-refused NoSpace h t = omega (arith, t, wide)
-    not-refused WrongLength h t = wrong (slice_get (plan_lines p) j) (h.answer ∙ ap (λ t. line_answer t (slice_get (plan_lines p) j) space) levelled)
+    pub not_refused : (x : LineRefusal) → AnswersLine p j space space' (Err x) → Tight space (Err x) → ⊥
+    not_refused NoSpace h t = omega (arith, t, wide)
+    not_refused WrongLength h t = wrong (slice_get (plan_lines p) j) (h.answer ∙ ap (λ t. line_answer t (slice_get (plan_lines p) j) space) levelled)
       where
         wrong : (o : Option (List ℕ)) → Err WrongLength ≡ line_answer true o space → ⊥
         wrong None e = let z : ◌≡◌ {A = ℕ} 0 1 = cc in omega arith

@@ -63,16 +63,16 @@ module _ (m : Model) (text : List ℕ) (place : ℕ) (r : Reply) where
             plans = h;
           })
 
-    from-sweeps : (q : Result SweepsLine ReadRefusal) → q ≡ read_sweeps (rest_at text) (place + 1) → AtSweeps m c (rest_at (rest_at text)) (place + 1 + 1) q r → Either m text r
-    from-sweeps (Err e) q h = inl (e, h)
-    from-sweeps (Ok s) q h = from_end s q (read_end (rest_at (rest_at text)) (place + 1 + 1)) refl h
+    from_sweeps : (q : Result SweepsLine ReadRefusal) → q ≡ read_sweeps (rest_at text) (place + 1) → AtSweeps m c (rest_at (rest_at text)) (place + 1 + 1) q r → Either m text r
+    from_sweeps (Err e) q h = inl (e, h)
+    from_sweeps (Ok s) q h = from_end s q (read_end (rest_at (rest_at text)) (place + 1 + 1)) refl h
 
-  from-tariff : (q : Result TariffChoice ReadRefusal) → q ≡ read_tariff text place → AtTariff m (rest_at text) (place + 1) q r → Either m text r
-  from-tariff (Err e) q h = inl (e, h)
-  from-tariff (Ok c) q h = from-sweeps c q (read_sweeps (rest_at text) (place + 1)) refl h
+  from_tariff : (q : Result TariffChoice ReadRefusal) → q ≡ read_tariff text place → AtTariff m (rest_at text) (place + 1) q r → Either m text r
+  from_tariff (Err e) q h = inl (e, h)
+  from_tariff (Ok c) q h = from_sweeps c q (read_sweeps (rest_at text) (place + 1)) refl h
 
   behind : BehindPlant m text place r → Either m text r
-  behind h = from-tariff (read_tariff text place) refl h
+  behind h = from_tariff (read_tariff text place) refl h
 
 -- the line of the sweeps that were counted
 line_of_count : (q : Result SweepsLine ReadRefusal) (n : ℕ) → counted q ≡ Ok n → (s : SweepsLine) × (q ≡ Ok s)
@@ -86,8 +86,8 @@ planned m text place r c n whole rate few h =
     let k = (sweeps_read (rest_at text) (rest_at (rest_at text)) (place + 1) (read_sweeps (rest_at text) (place + 1)) refl refl n []).1 (t.1 ∙ sym (append-nil (number_line Sweeps n)), few) in
     let s = line_of_count (read_sweeps (rest_at text) (place + 1)) n k.0 in
     let e : read_end (rest_at (rest_at text)) (place + 1 + 1) ≡ None = (end_read (rest_at (rest_at text)) (place + 1 + 1) (read_end (rest_at (rest_at text)) (place + 1 + 1)) refl).1 k.1 in
-    let at-sweeps : AtSweeps m c (rest_at (rest_at text)) (place + 1 + 1) (read_sweeps (rest_at text) (place + 1)) r = subst (λ q. AtTariff m (rest_at text) (place + 1) q r) t.0 h in
-    let at_end : AtEnd m c s.0 (read_end (rest_at (rest_at text)) (place + 1 + 1)) r = subst (λ q. AtSweeps m c (rest_at (rest_at text)) (place + 1 + 1) q r) s.1 at-sweeps in
+    let at_sweeps : AtSweeps m c (rest_at (rest_at text)) (place + 1 + 1) (read_sweeps (rest_at text) (place + 1)) r = subst (λ q. AtTariff m (rest_at text) (place + 1) q r) t.0 h in
+    let at_end : AtEnd m c s.0 (read_end (rest_at (rest_at text)) (place + 1 + 1)) r = subst (λ q. AtSweeps m c (rest_at (rest_at text)) (place + 1 + 1) q r) s.1 at_sweeps in
     (s.0, subst (λ o. AtEnd m c s.0 o r) e at_end)
 
 -- a reply that is not broken, to a text that is a request then
@@ -126,26 +126,26 @@ pair_of (Err x) n e = let z : ◌≡◌ {A = ℕ} 0 1 = cc in absurd (omega arit
 
 -- a request is not called broken
 module _ (text : List ℕ) (e : ReadRefusal) where
-  chain-sound : (m : Model) (c : TariffChoice) (n : ℕ) → ChainFirst text m (tariff_line c ++ number_line Sweeps n) → RateInRange c → n ≤ most_sweeps → RepliesToChain text (Refused (Broken e)) → ⊥
-  chain-sound m c n f rate few h =
+  chain_sound : (m : Model) (c : TariffChoice) (n : ℕ) → ChainFirst text m (tariff_line c ++ number_line Sweeps n) → RateInRange c → n ≤ most_sweeps → RepliesToChain text (Refused (Broken e)) → ⊥
+  chain_sound m c n f rate few h =
       let b = (h.law f.chain.numbers (tariff_line c ++ number_line Sweeps n)).1 f.begins in
       let a = chain_of h.answer f.chain.numbers b.0 in
       let p = planned (chain_model a.0.numbers a.0.least) h.rest h.place (Refused (Broken e)) c n b.1 rate few (subst (λ q. AtChain h.rest h.place q (Refused (Broken e))) a.1 h.replies) in
       p.1
 
-  pair-sound : (m : Model) (c : TariffChoice) (n : ℕ) → PairFirst text m (tariff_line c ++ number_line Sweeps n) → RateInRange c → n ≤ most_sweeps → RepliesToPair text (Refused (Broken e)) → ⊥
-  pair-sound m c n f rate few h =
+  pair_sound : (m : Model) (c : TariffChoice) (n : ℕ) → PairFirst text m (tariff_line c ++ number_line Sweeps n) → RateInRange c → n ≤ most_sweeps → RepliesToPair text (Refused (Broken e)) → ⊥
+  pair_sound m c n f rate few h =
       let b = (h.law f.pair.numbers (tariff_line c ++ number_line Sweeps n)).1 f.begins in
       let a = pair_of h.answer f.pair.numbers b.0 in
       let p = planned (pair_model a.0.numbers) h.rest h.place (Refused (Broken e)) c n b.1 rate few (subst (λ q. AtPair h.rest h.place q (Refused (Broken e))) a.1 h.replies) in
       p.1
 
-  not-broken : RepliesTo text (Refused (Broken e)) → RefusedLaw text (Broken e)
-  not-broken h m c n q = by-plant q.plant
+  not_broken : RepliesTo text (Refused (Broken e)) → RefusedLaw text (Broken e)
+  not_broken h m c n q = by_plant q.plant
     where
-      by-plant : PlantFirst text m (tariff_line c ++ number_line Sweeps n) → ⊥
-      by-plant (inl f) = chain-sound m c n f q.rate q.few (subst (λ k. AtKind text k (Refused (Broken e))) (chain_kind text f.chain.numbers (tariff_line c ++ number_line Sweeps n) f.begins) h)
-      by-plant (inr f) = pair-sound m c n f q.rate q.few (subst (λ k. AtKind text k (Refused (Broken e))) (pair_kind text f.pair.numbers (tariff_line c ++ number_line Sweeps n) f.begins) h)
+      by_plant : PlantFirst text m (tariff_line c ++ number_line Sweeps n) → ⊥
+      by_plant (inl f) = chain_sound m c n f q.rate q.few (subst (λ k. AtKind text k (Refused (Broken e))) (chain_kind text f.chain.numbers (tariff_line c ++ number_line Sweeps n) f.begins) h)
+      by_plant (inr f) = pair_sound m c n f q.rate q.few (subst (λ k. AtKind text k (Refused (Broken e))) (pair_kind text f.pair.numbers (tariff_line c ++ number_line Sweeps n) f.begins) h)
 
 -- a reply, read off its text, that is broken or to a request
 abbrev Settled : List ℕ → Reply → Type 0
@@ -176,7 +176,7 @@ reply_law text r h = told r h (by_kind text r (read_kind text) h)
     told : (r : Reply) → RepliesTo text r → Settled text r → ReplyLaw text r
     told r h (inr l) = l
     told (Plan v) h (inl b) = let z : ◌≡◌ {A = ℕ} 0 1 = cc b.1 in absurd (omega arith)
-    told (Refused (Broken e)) h (inl b) = not-broken text e h
+    told (Refused (Broken e)) h (inl b) = not_broken text e h
     told (Refused (BeyondReach line)) h (inl b) = let z : ◌≡◌ {A = ℕ} 0 1 = cc b.1 in absurd (omega arith)
 
 pub made_law : {Y : Type 0} (text : List ℕ) (q : Result Reply Y) → MatchResult q (RepliesTo text) (λ _. SomeRequest text) → MatchResult q (ReplyLaw text) (λ _. SomeRequest text)

@@ -22,7 +22,7 @@ use Rattle.reading.specs.declared.keys.Key.TheVariants.{Kind as KindKey, Tariff,
 use Rattle.reading.specs.declared.rules.ReadRefusal.{ReadRefusal}
 use Rattle.reading.specs.declared.rules.Rule.{Rule}
 use Rattle.reading.specs.declared.rules.Rule.TheVariants.{Unexpected}
-use Rattle.reading.proofs.WrittenLaws.{plain_bytes, widest_value, written-line, written-rest, read_line, number_short}
+use Rattle.reading.proofs.WrittenLaws.{plain_bytes, widest_value, written_line, written_rest, read_line, number_short}
 use Rattle.tariffs.specs.Priced.{most_rate}
 use Rattle.request.specs.declared.kind.Kind.{Kind}
 use Rattle.request.specs.declared.kind.Kind.TheVariants.{Chain, Pair}
@@ -46,9 +46,9 @@ module _ {A : Type 0} (k : Key) (text : List ℕ) (f : List ℕ → Result A Rul
   used_pair name v line true same e = record { value = v; whole = read_line text name v k line ((bytes_eq-Decides name (name_of k)).0 same); made = e }
   used_pair name v line false same e = let z : ◌≡◌ {A = ℕ} 0 1 = cc in absurd (omega arith)
 
-  used-line : (s : Said) → line_at text ≡ s → after (value_due (name_of k) s) f ≡ Ok a → Used k text f a
-  used-line (fault n) line e = let z : ◌≡◌ {A = ℕ} 0 1 = cc in absurd (omega arith)
-  used-line (pair name v) line e = used_pair name v line (bytes_eq name (name_of k)) refl e
+  used_line : (s : Said) → line_at text ≡ s → after (value_due (name_of k) s) f ≡ Ok a → Used k text f a
+  used_line (fault n) line e = let z : ◌≡◌ {A = ℕ} 0 1 = cc in absurd (omega arith)
+  used_line (pair name v) line e = used_pair name v line (bytes_eq name (name_of k)) refl e
 
 unplaced : {A : Type 0} (n : ℕ) (r : Result A Rule) (a : A) → at_line n r ≡ Ok a → r ≡ Ok a
 unplaced n (Ok b) a e = cc
@@ -71,11 +71,11 @@ kind_bytes Pair = ((plain_bytes (codes "pair") refl).1, omega arith)
 kind_law : (text : List ℕ) → ReadsKind text (read_kind text)
 kind_law text k = (
   (λ e.
-      let u = used-line KindKey text kind_named k (line_at text) refl (unplaced 1 (after (value_due (codes "kind") (line_at text)) kind_named) k e) in
+      let u = used_line KindKey text kind_named k (line_at text) refl (unplaced 1 (after (value_due (codes "kind") (line_at text)) kind_named) k e) in
       (rest_at text, u.whole ∙ ap (λ v. line_of KindKey v ++ rest_at text) (kind_by u.value k (bytes_eq u.value (codes "chain")) (bytes_eq u.value (codes "pair")) refl refl u.made))),
   (λ h.
       let b = kind_bytes k in
-      let line : line_at text ≡ pair (codes "kind") (kind_word k) = ap line_at h.1 ∙ written-line KindKey named (kind_word k) h.0 b.0 b.1 in
+      let line : line_at text ≡ pair (codes "kind") (kind_word k) = ap line_at h.1 ∙ written_line KindKey named (kind_word k) h.0 b.0 b.1 in
       ap (λ s. at_line 1 (after (value_due (codes "kind") s) kind_named)) line ∙ ap (at_line 1) (made_kind k)),
 )
   where
@@ -148,15 +148,15 @@ word_bytes AirFirst h = ((plain_bytes (codes "airfirst") refl).1, omega arith)
 tariff_law : (text : List ℕ) (place : ℕ) → ReadsTariff text (read_tariff text place) (rest_at text)
 tariff_law text place c more = (
   (λ h.
-      let u = used-line Tariff text tariff_of c (line_at text) refl (unplaced (place + 1) (after (value_due (codes "tariff") (line_at text)) tariff_of) c h.0) in
+      let u = used_line Tariff text tariff_of c (line_at text) refl (unplaced (place + 1) (after (value_due (codes "tariff") (line_at text)) tariff_of) c h.0) in
       let w = read_words (fields u.value) c u.made in
       (u.whole ∙ ap (λ v. line_of Tariff v ++ rest_at text) (sym (joined_fields u.value) ∙ ap joined w.0) ∙ ap (λ r. tariff_line c ++ r) h.1, w.1)),
   (λ h.
       let v = joined (tariff_words c) in
       let b = word_bytes c h.1 in
-      let line : line_at text ≡ pair (codes "tariff") v = ap line_at h.0 ∙ written-line Tariff named v more b.0 b.1 in
+      let line : line_at text ≡ pair (codes "tariff") v = ap line_at h.0 ∙ written_line Tariff named v more b.0 b.1 in
       let made : tariff_of v ≡ Ok c = ap tariff_by (fields_joined (tariff_words c) (some_words c) (word_free c h.1)) ∙ made_tariff c h.1 in
-      (ap (λ s. at_line (place + 1) (after (value_due (codes "tariff") s) tariff_of)) line ∙ ap (at_line (place + 1)) made, ap rest_at h.0 ∙ written-rest Tariff named v more b.0 b.1)),
+      (ap (λ s. at_line (place + 1) (after (value_due (codes "tariff") s) tariff_of)) line ∙ ap (at_line (place + 1)) made, ap rest_at h.0 ∙ written_rest Tariff named v more b.0 b.1)),
 )
   where
     named : Tariff ≡ Other → ⊥
@@ -175,16 +175,16 @@ sweeps_law : (text : List ℕ) (place : ℕ) → ReadsSweeps text (counted (read
 sweeps_law text place n more = (
   (λ h.
       let r = at_line (place + 1) (after (value_due (codes "sweeps") (line_at text)) sweeps_of) in
-      let u = used-line Sweeps text sweeps_of n (line_at text) refl (unplaced (place + 1) (after (value_due (codes "sweeps") (line_at text)) sweeps_of) n (count_of (place + 1) r n h.0)) in
+      let u = used_line Sweeps text sweeps_of n (line_at text) refl (unplaced (place + 1) (after (value_due (codes "sweeps") (line_at text)) sweeps_of) n (count_of (place + 1) r n h.0)) in
       let w = swept u.value n (numeral u.value most_sweeps) refl u.made in
       (u.whole ∙ ap (λ v. line_of Sweeps v ++ rest_at text) w.0 ∙ ap (λ r. number_line Sweeps n ++ r) h.1, w.1)),
   (λ h.
       let v = decimal n in
       let bytes = decimal_printable n (small h.1) in
       let short = number_short n (small h.1) in
-      let line : line_at text ≡ pair (codes "sweeps") v = ap line_at h.0 ∙ written-line Sweeps named v more bytes short in
+      let line : line_at text ≡ pair (codes "sweeps") v = ap line_at h.0 ∙ written_line Sweeps named v more bytes short in
       let made : sweeps_of v ≡ Ok n = ap sweeps_by (numeral_decimal n most_sweeps (lit< tt) h.1) in
-      (ap (λ s. counted (on_line (place + 1) (at_line (place + 1) (after (value_due (codes "sweeps") s) sweeps_of)))) line ∙ ap (λ r. counted (on_line (place + 1) (at_line (place + 1) r))) made, ap rest_at h.0 ∙ written-rest Sweeps named v more bytes short)),
+      (ap (λ s. counted (on_line (place + 1) (at_line (place + 1) (after (value_due (codes "sweeps") s) sweeps_of)))) line ∙ ap (λ r. counted (on_line (place + 1) (at_line (place + 1) r))) made, ap rest_at h.0 ∙ written_rest Sweeps named v more bytes short)),
 )
   where
     named : Sweeps ≡ Other → ⊥

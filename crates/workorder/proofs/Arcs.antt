@@ -1,7 +1,7 @@
 -- The cheapest arc of a list. Assumes nothing.
 use Rattle.std.proofs.Common.{◌≡◌, ℕ, ◌+◌, ◌<◌, ◌⊎◌, List, [], ◌∷◌, ◌++◌, length, get_or, take, Some, None, Option, refl, subst, inl, inr, arith}
 use Rattle.std.proofs.lemmas.List.{take_more}
-use Rattle.workorder.proofs.Leasts.{least-same, least-either}
+use Rattle.workorder.proofs.Leasts.{least_same, least_either}
 use Rattle.workorder.specs.Orders.{LeastOf}
 use Rattle.workorder.specs.Steps.{ArcFor, Leads, Usable, lesser}
 use Rattle.workorder.specs.declared.Arc.{Arc}
@@ -33,9 +33,9 @@ module _ (done part : ℕ) where
   alone a (Some c) u = (∣ u ∣₁, λ d t. omega (arith, u.1, t.1))
 
   -- with the arc at i too, the cheapest is the lesser of the cheapest and that arc
-  pub cheapest-more : (arcs : List Arc) (i : ℕ) (d : Arc) (r s t : Option ℕ) → i < length arcs → LeastOf (ArcFor (take i arcs) done part) r
+  pub cheapest_more : (arcs : List Arc) (i : ℕ) (d : Arc) (r s t : Option ℕ) → i < length arcs → LeastOf (ArcFor (take i arcs) done part) r
       → Usable done part (get_or arcs i d) s → t ≡ lesser r s → LeastOf (ArcFor (take (i + 1) arcs) done part) t
-  cheapest-more arcs i d r s t h l m e =
+  cheapest_more arcs i d r s t h l m e =
       rw (e, take_more arcs i d h)
-      (least-same _ _ (join (take i arcs) (get_or arcs i d)) (split (take i arcs) (get_or arcs i d)) (lesser r s)
-      (least-either (ArcFor (take i arcs) done part) (This (get_or arcs i d)) r s l (alone (get_or arcs i d) s m)))
+      (least_same _ _ (join (take i arcs) (get_or arcs i d)) (split (take i arcs) (get_or arcs i d)) (lesser r s)
+      (least_either (ArcFor (take i arcs) done part) (This (get_or arcs i d)) r s l (alone (get_or arcs i d) s m)))

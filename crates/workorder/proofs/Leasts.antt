@@ -9,38 +9,38 @@ use native.Mathlib.Bridge.{le_prop}
 
 module _ (P Q : ℕ → Type 0) where
   -- the same numbers have the same least
-  pub least-same : ((c : ℕ) → P c → Q c) → ((c : ℕ) → Q c → P c) → (r : Option ℕ) → LeastOf P r → LeastOf Q r
-  least-same f g None l = λ c q. l c (g c q)
-  least-same f g (Some c) l = (∥∥₁_map l.0 (f c), λ d q. l.1 d (g d q))
+  pub least_same : ((c : ℕ) → P c → Q c) → ((c : ℕ) → Q c → P c) → (r : Option ℕ) → LeastOf P r → LeastOf Q r
+  least_same f g None l = λ c q. l c (g c q)
+  least_same f g (Some c) l = (∥∥₁_map l.0 (f c), λ d q. l.1 d (g d q))
 
   -- the least of either kind is the lesser of the least of each
-  pub least-either : (r s : Option ℕ) → LeastOf P r → LeastOf Q s → LeastOf (λ c. P c ⊎ Q c) (lesser r s)
-  least-either None None l m = λ c e. elim e [ inl p ↦ l c p | inr q ↦ m c q ]
-  least-either None (Some b) l m = (∥∥₁_map m.0 inr, λ d e. elim e [ inl p ↦ absurd (l d p) | inr q ↦ m.1 d q ])
-  least-either (Some a) None l m = (∥∥₁_map l.0 inl, λ d e. elim e [ inl p ↦ l.1 d p | inr q ↦ absurd (m d q) ])
-  least-either (Some a) (Some b) l m = (one (cases_lt a b), λ d e. elim e [ inl p ↦ omega (arith, l.1 d p) | inr q ↦ omega (arith, m.1 d q) ])
+  pub least_either : (r s : Option ℕ) → LeastOf P r → LeastOf Q s → LeastOf (λ c. P c ⊎ Q c) (lesser r s)
+  least_either None None l m = λ c e. elim e [ inl p ↦ l c p | inr q ↦ m c q ]
+  least_either None (Some b) l m = (∥∥₁_map m.0 inr, λ d e. elim e [ inl p ↦ absurd (l d p) | inr q ↦ m.1 d q ])
+  least_either (Some a) None l m = (∥∥₁_map l.0 inl, λ d e. elim e [ inl p ↦ l.1 d p | inr q ↦ absurd (m d q) ])
+  least_either (Some a) (Some b) l m = (one (cases_lt a b), λ d e. elim e [ inl p ↦ omega (arith, l.1 d p) | inr q ↦ omega (arith, m.1 d q) ])
     where
       one : (a < b) ⊎ (b ≤ a) → ∥ P (min a b) ⊎ Q (min a b) ∥₁
       one (inl h) = let e : min a b ≡ a = omega arith in ∥∥₁_map l.0 (λ p. inl (rw e p))
       one (inr h) = let e : min a b ≡ b = omega arith in ∥∥₁_map m.0 (λ q. inr (rw e q))
 
   -- a sum is least where both its numbers are
-  pub least-sum : (r s : Option ℕ) → LeastOf P r → LeastOf Q s → LeastOf (λ c. (a b : ℕ) × P a × Q b × (c ≡ a + b)) (sum r s)
-  least-sum None s l m = λ c e. l e.0 e.2
-  least-sum (Some a) None l m = λ c e. m e.1 e.3
-  least-sum (Some a) (Some b) l m = (∥∥₁_map₂ l.0 m.0 (λ p q. (a, b, p, q, refl)), λ d e. omega (arith, l.1 e.0 e.2, m.1 e.1 e.3, e.4))
+  pub least_sum : (r s : Option ℕ) → LeastOf P r → LeastOf Q s → LeastOf (λ c. (a b : ℕ) × P a × Q b × (c ≡ a + b)) (sum r s)
+  least_sum None s l m = λ c e. l e.0 e.2
+  least_sum (Some a) None l m = λ c e. m e.1 e.3
+  least_sum (Some a) (Some b) l m = (∥∥₁_map₂ l.0 m.0 (λ p q. (a, b, p, q, refl)), λ d e. omega (arith, l.1 e.0 e.2, m.1 e.1 e.3, e.4))
 
 module _ (P : ℕ → Type 0) where
   -- there is one least
-  pub least-unique : (r s : Option ℕ) → LeastOf P r → LeastOf P s → r ≡ s
-  least-unique None None l m = refl
-  least-unique None (Some b) l m = absurd (∥∥₁_elim m.0 ⊥_prop (l b))
-  least-unique (Some a) None l m = absurd (∥∥₁_elim l.0 ⊥_prop (m a))
-  least-unique (Some a) (Some b) l m = ap Some (omega (arith, ∥∥₁_elim m.0 le_prop (l.1 b), ∥∥₁_elim l.0 le_prop (m.1 a)))
+  pub least_unique : (r s : Option ℕ) → LeastOf P r → LeastOf P s → r ≡ s
+  least_unique None None l m = refl
+  least_unique None (Some b) l m = absurd (∥∥₁_elim m.0 ⊥_prop (l b))
+  least_unique (Some a) None l m = absurd (∥∥₁_elim l.0 ⊥_prop (m a))
+  least_unique (Some a) (Some b) l m = ap Some (omega (arith, ∥∥₁_elim m.0 le_prop (l.1 b), ∥∥₁_elim l.0 le_prop (m.1 a)))
 
-  pub least-prop : (r : Option ℕ) → IsProp (LeastOf P r)
-  least-prop None = Π_prop (λ c. Π_prop (λ p. ⊥_prop))
-  least-prop (Some c) = ×_prop ∥∥₁_prop (Π_prop (λ d. Π_prop (λ p. le_prop)))
+  pub least_prop : (r : Option ℕ) → IsProp (LeastOf P r)
+  least_prop None = Π_prop (λ c. Π_prop (λ p. ⊥_prop))
+  least_prop (Some c) = ×_prop ∥∥₁_prop (Π_prop (λ d. Π_prop (λ p. le_prop)))
 
 pub lesser_at_most : (m : ℕ) (r s t : Option ℕ) → AtMost m r → AtMost m s → t ≡ lesser r s → AtMost m t
 lesser_at_most m r s t h k e = rw e (both r s h k)

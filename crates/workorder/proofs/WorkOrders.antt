@@ -1,7 +1,7 @@
 -- A work order for a portfolio is one for the portfolio without its last part, and an arc to that part. Assumes nothing.
 use Rattle.std.proofs.Common.{◌≡◌, ℕ, suc, ◌+◌, ◌*◌, ◌^◌, ◌<◌, ◌≤◌, ◌≢◌, ◌⊎◌, List, [], ◌∷◌, length, get_or, set, replicate, Some, None, Option, sym, refl, ap, ◌∙◌, subst, inl, inr, mul-le-mul_right, arith, length-set, get_or-set_other, get_or-set_same, below_more}
 use Rattle.std.proofs.lemmas.Bool.{cases_eq, cases_lt}
-use Rattle.workorder.proofs.Leasts.{least-same, least-either, least-prop, least-sum, least-unique}
+use Rattle.workorder.proofs.Leasts.{least_same, least_either, least_prop, least_sum, least_unique}
 use Rattle.workorder.proofs.Portfolios.{holds_without, holds_others, none_in_zero, ones_without, part_within, zero_from_none}
 use Rattle.workorder.specs.Orders.{AtMost, Holds, Least, LeastOf, LeastTable, Lists, NoneDearer, OrderFor, WorkOrder, max_parts, nothing, next, portfolios}
 use Rattle.workorder.specs.Steps.{ArcFor, EndsWith, Leads, RightBelow, lesser, sum, without}
@@ -41,13 +41,13 @@ more_lists x i done held l = (λ m. (holds_without x i i held ((l i).0 m)).0 ref
 
 module _ (arcs : List Arc) where
   -- the work order that does nothing
-  pub order-none : OrderFor arcs 0 0
-  order-none = ([], (λ i. (λ m. absurd (Memᴰ.not-nil m), λ h. absurd (none_in_zero i h))), nothing)
+  pub order_none : OrderFor arcs 0 0
+  order_none = ([], (λ i. (λ m. absurd (Memᴰ.not-nil m), λ h. absurd (none_in_zero i h))), nothing)
 
   -- one more arc
-  pub order-next : (x before : ℕ) (a : Arc) → Holds x a.to → OrderFor arcs (without x a.to) before → In a arcs
+  pub order_next : (x before : ℕ) (a : Arc) → Holds x a.to → OrderFor arcs (without x a.to) before → In a arcs
       → Leads (without x a.to) a.to a → OrderFor arcs x (before + a.cents)
-  order-next x before a held o m leads =
+  order_next x before a held o m leads =
       (a.to ∷ o.0, more.1, next o.2 a m (from leads.1) more.0)
     where
       more : (In a.to o.0 → ⊥) × Lists x (a.to ∷ o.0)
@@ -57,21 +57,21 @@ module _ (arcs : List Arc) where
       from (inl e) = inl e
       from (inr h) = inr ((o.1 a.from).1 h)
 
-  order-joined : (x i c : ℕ) → EndsWith arcs x i c → OrderFor arcs x c
-  order-joined x i c e = at e.1.3.0 e.1.3.2.0 e.1.3.1 e.1.3.2 e.1.3.3
+  order_joined : (x i c : ℕ) → EndsWith arcs x i c → OrderFor arcs x c
+  order_joined x i c e = at e.1.3.0 e.1.3.2.0 e.1.3.1 e.1.3.2 e.1.3.3
     where
       at : (a : Arc) → a.to ≡ i → In a arcs → Leads (without x i) i a → a.cents ≡ e.1.1 → OrderFor arcs x c
       at a p m leads q =
           let held : Holds x a.to = subst (λ (k : ℕ). Holds x k) (sym p) e.0 in
           let before : OrderFor arcs (without x a.to) e.1.0 = subst (λ (k : ℕ). OrderFor arcs (without x k) e.1.0) (sym p) e.1.2 in
           let leads' : Leads (without x a.to) a.to a = subst (λ (k : ℕ). Leads (without x k) k a) (sym p) leads in
-          subst (λ (k : ℕ). OrderFor arcs x k) (ap (λ (k : ℕ). e.1.0 + k) q ∙ sym e.1.4) (order-next x e.1.0 a held before m leads')
+          subst (λ (k : ℕ). OrderFor arcs x k) (ap (λ (k : ℕ). e.1.0 + k) q ∙ sym e.1.4) (order_next x e.1.0 a held before m leads')
 
   -- What holds of doing nothing, and of each further arc, holds of every work order.
-  pub order-ind : (P : ℕ → ℕ → Type 0) → P 0 0
+  pub order_ind : (P : ℕ → ℕ → Type 0) → P 0 0
       → ((x c : ℕ) (a : Arc) → Holds x a.to → In a arcs → Leads (without x a.to) a.to a → OrderFor arcs (without x a.to) c → P (without x a.to) c → P x (c + a.cents))
       → (x c : ℕ) → OrderFor arcs x c → P x c
-  order-ind P none more x c o = along x o.1 o.2
+  order_ind P none more x c o = along x o.1 o.2
     where
       along : {done : List ℕ} {c : ℕ} (x : ℕ) → Lists x done → WorkOrder arcs done c → P x c
       along x l nothing = subst (λ (k : ℕ). P k 0) (sym (zero_from_none x (λ i h. Memᴰ.not-nil ((l i).1 h)))) none
@@ -81,42 +81,42 @@ module _ (arcs : List Arc) where
           more x cents a ((l a.to).0 (In.head refl)) m (refl, from) (done, rest, w) (along (without x a.to) rest w)
 
   -- a work order does nothing, or ends with some part
-  order-split : (x c : ℕ) → OrderFor arcs x c → (x ≡ 0) ⊎ ((i : ℕ) × EndsWith arcs x i c)
-  order-split =
-      order-ind (λ x c. (x ≡ 0) ⊎ ((i : ℕ) × EndsWith arcs x i c)) (inl refl)
+  order_split : (x c : ℕ) → OrderFor arcs x c → (x ≡ 0) ⊎ ((i : ℕ) × EndsWith arcs x i c)
+  order_split =
+      order_ind (λ x c. (x ≡ 0) ⊎ ((i : ℕ) × EndsWith arcs x i c)) (inl refl)
       (λ x c a held m leads o _. inr (a.to, (held, (c, a.cents, o, (a, m, leads, refl), refl))))
 
   -- a work order costs at most the dearest arc for each of its parts
-  pub order-at-most : (m n x c : ℕ) → NoneDearer m arcs → x < 2 ^ n → OrderFor arcs x c → c ≤ n * m
-  order-at-most m n x c dear l o = let p : ones x * m ≤ n * m = mul-le-mul_right m (ones-le n x l) in omega (arith, for-each x c o)
+  pub order_at_most : (m n x c : ℕ) → NoneDearer m arcs → x < 2 ^ n → OrderFor arcs x c → c ≤ n * m
+  order_at_most m n x c dear l o = let p : ones x * m ≤ n * m = mul-le-mul_right m (ones-le n x l) in omega (arith, for_each x c o)
     where
-      for-each : (x c : ℕ) → OrderFor arcs x c → c ≤ ones x * m
-      for-each = order-ind (λ x c. c ≤ ones x * m) (omega arith) (λ x c a held i leads o h. let e = ap (λ (k : ℕ). k * m) (ones_without x a.to held) in omega (arith, dear a i))
+      for_each : (x c : ℕ) → OrderFor arcs x c → c ≤ ones x * m
+      for_each = order_ind (λ x c. c ≤ ones x * m) (omega arith) (λ x c a held i leads o h. let e = ap (λ (k : ℕ). k * m) (ones_without x a.to held) in omega (arith, dear a i))
 
   -- the least of the work orders that end with part i, from the least of those for the other parts and the cheapest arc
-  pub ends-least : (x i y : ℕ) (r s t : Option ℕ) → Holds x i → y ≡ without x i → Least arcs y r → LeastOf (ArcFor arcs y i) s → t ≡ sum r s → LeastOf (EndsWith arcs x i) t
-  ends-least x i y r s t held p l m q =
+  pub ends_least : (x i y : ℕ) (r s t : Option ℕ) → Holds x i → y ≡ without x i → Least arcs y r → LeastOf (ArcFor arcs y i) s → t ≡ sum r s → LeastOf (EndsWith arcs x i) t
+  ends_least x i y r s t held p l m q =
       let l' : Least arcs (without x i) r = subst (λ (k : ℕ). Least arcs k r) p l in
       let m' : LeastOf (ArcFor arcs (without x i) i) s = subst (λ (k : ℕ). LeastOf (ArcFor arcs k i) s) p m in
-      rw q (least-same _ _ (λ c e. (held, e)) (λ c e. e.1) (sum r s) (least-sum _ _ r s l' m'))
+      rw q (least_same _ _ (λ c e. (held, e)) (λ c e. e.1) (sum r s) (least_sum _ _ r s l' m'))
 
   -- Some work order for x that ends with a part below n costs c.
   abbrev pub EndsBelow : ℕ → ℕ → ℕ → Type 0
   EndsBelow x n c = (i : ℕ) × (i < n) × EndsWith arcs x i c
 
   -- the least of those is the least of all work orders
-  pub ends-below-all : (n x : ℕ) (r : Option ℕ) → 0 < x → x < 2 ^ n → LeastOf (EndsBelow x (suc n)) r → Least arcs x r
-  ends-below-all n x r p l = least-same (EndsBelow x (suc n)) (OrderFor arcs x) (λ c e. order-joined x e.0 c e.2) split r
+  pub ends_below_all : (n x : ℕ) (r : Option ℕ) → 0 < x → x < 2 ^ n → LeastOf (EndsBelow x (suc n)) r → Least arcs x r
+  ends_below_all n x r p l = least_same (EndsBelow x (suc n)) (OrderFor arcs x) (λ c e. order_joined x e.0 c e.2) split r
     where
       split : (c : ℕ) → OrderFor arcs x c → EndsBelow x (suc n) c
-      split c o = elim (order-split x c o) [ inl z ↦ absurd (omega arith) | inr e ↦ (e.0, omega (arith, part_within n x e.0 l e.1.0), e.1) ]
+      split c o = elim (order_split x c o) [ inl z ↦ absurd (omega arith) | inr e ↦ (e.0, omega (arith, part_within n x e.0 l e.1.0), e.1) ]
 
-  pub ends-below-none : (x n c : ℕ) → n ≤ 1 → EndsBelow x n c → ⊥
-  ends-below-none x n c l e = omega (arith, e.1, e.2.0.0)
+  pub ends_below_none : (x n c : ℕ) → n ≤ 1 → EndsBelow x n c → ⊥
+  ends_below_none x n c l e = omega (arith, e.1, e.2.0.0)
 
   -- one part more
-  pub ends-below-more : (x n : ℕ) (r s t : Option ℕ) → LeastOf (EndsBelow x n) r → LeastOf (EndsWith arcs x n) s → t ≡ lesser r s → LeastOf (EndsBelow x (n + 1)) t
-  ends-below-more x n r s t l m q = rw q (least-same _ _ join split (lesser r s) (least-either (EndsBelow x n) (EndsWith arcs x n) r s l m))
+  pub ends_below_more : (x n : ℕ) (r s t : Option ℕ) → LeastOf (EndsBelow x n) r → LeastOf (EndsWith arcs x n) s → t ≡ lesser r s → LeastOf (EndsBelow x (n + 1)) t
+  ends_below_more x n r s t l m q = rw q (least_same _ _ join split (lesser r s) (least_either (EndsBelow x n) (EndsWith arcs x n) r s l m))
     where
       join : (c : ℕ) → EndsBelow x n c ⊎ EndsWith arcs x n c → EndsBelow x (n + 1) c
       join c (inl e) = (e.0, omega (arith, e.1), e.2)
@@ -128,21 +128,21 @@ module _ (arcs : List Arc) where
   -- ---- the table of the least cents
 
   -- the table of portfolio 0 alone
-  pub right-first : (table : List (Option ℕ)) → table ≡ set (replicate portfolios None) 0 (Some 0) → RightBelow arcs 1 table
-  right-first table e = record { long = ap length e; least = at_least; small = at_small }
+  pub right_first : (table : List (Option ℕ)) → table ≡ set (replicate portfolios None) 0 (Some 0) → RightBelow arcs 1 table
+  right_first table e = record { long = ap length e; least = at_least; small = at_small }
     where
       first : (y : ℕ) → y < 1 → (y ≡ 0) × (get_or table y None ≡ Some 0)
       first y l = let z : y ≡ 0 = omega arith in (z, ap (λ (k : ℕ). get_or table k None) z ∙ ap (λ (t : List (Option ℕ)). get_or t 0 None) e)
 
       at_least : (y : ℕ) → y < 1 → Least arcs y (get_or table y None)
-      at_least y l = rw ((first y l).1, (first y l).0) (∣ order-none ∣₁, λ d o. omega arith)
+      at_least y l = rw ((first y l).1, (first y l).0) (∣ order_none ∣₁, λ d o. omega arith)
 
       at_small : (y : ℕ) → y < 1 → AtMost (y * 2 ^ 32) (get_or table y None)
       at_small y l = rw (first y l).1 (omega arith)
 
   -- one portfolio more
-  pub right-more : (x : ℕ) (table : List (Option ℕ)) (r : Option ℕ) → x < portfolios → RightBelow arcs x table → Least arcs x r → AtMost (x * 2 ^ 32) r → RightBelow arcs (x + 1) (set table x r)
-  right-more x table r l right least small = record { long = rw length-set right.long; least = at_least; small = at_small }
+  pub right_more : (x : ℕ) (table : List (Option ℕ)) (r : Option ℕ) → x < portfolios → RightBelow arcs x table → Least arcs x r → AtMost (x * 2 ^ 32) r → RightBelow arcs (x + 1) (set table x r)
+  right_more x table r l right least small = record { long = rw length-set right.long; least = at_least; small = at_small }
     where
       here : get_or (set table x r) x None ≡ r
       here = let p : x < length table = omega (arith, right.long) in rw get_or-set_same
@@ -154,20 +154,20 @@ module _ (arcs : List Arc) where
       at_small = below_more (λ y. AtMost (y * 2 ^ 32) (get_or (set table x r) y None)) x (λ y h. let d : y ≢ x = omega arith in rw get_or-set_other (right.small y h)) (rw here small)
 
   -- every least number of a portfolio is the table's
-  pub table-only : (table : List (Option ℕ)) → LeastTable arcs table → (x : ℕ) (r : Option ℕ) → x < portfolios → Least arcs x r → r ≡ get_or table x None
-  table-only table right x r l m = least-unique (OrderFor arcs x) r (get_or table x None) m (right.least x l)
+  pub table_only : (table : List (Option ℕ)) → LeastTable arcs table → (x : ℕ) (r : Option ℕ) → x < portfolios → Least arcs x r → r ≡ get_or table x None
+  table_only table right x r l m = least_unique (OrderFor arcs x) r (get_or table x None) m (right.least x l)
 
-  pub table-bounded : (table : List (Option ℕ)) → LeastTable arcs table → (x m : ℕ) → x < portfolios → NoneDearer m arcs → AtMost (max_parts * m) (get_or table x None)
-  table-bounded table right x m l dear = at (get_or table x None) (right.least x l)
+  pub table_bounded : (table : List (Option ℕ)) → LeastTable arcs table → (x m : ℕ) → x < portfolios → NoneDearer m arcs → AtMost (max_parts * m) (get_or table x None)
+  table_bounded table right x m l dear = at (get_or table x None) (right.least x l)
     where
       at : (r : Option ℕ) → Least arcs x r → AtMost (max_parts * m) r
       at None h = tt
-      at (Some c) h = ∥∥₁_elim h.0 le_prop (order-at-most m max_parts x c dear l)
+      at (Some c) h = ∥∥₁_elim h.0 le_prop (order_at_most m max_parts x c dear l)
 
-  table-prop : (table : List (Option ℕ)) → IsProp (LeastTable arcs table)
-  table-prop table p q =
-      λ i. record { long = ℕ_set _ _ p.long q.long i; least = Π_prop (λ x. Π_prop (λ l. least-prop (OrderFor arcs x) (get_or table x None))) p.least q.least i }
+  table_prop : (table : List (Option ℕ)) → IsProp (LeastTable arcs table)
+  table_prop table p q =
+      λ i. record { long = ℕ_set _ _ p.long q.long i; least = Π_prop (λ x. Π_prop (λ l. least_prop (OrderFor arcs x) (get_or table x None))) p.least q.least i }
 
   -- a struct can hold the fact in a ghost field, as `∥ LeastTable arcs table ∥₁`, and have it back
-  pub table-held : (table : List (Option ℕ)) → ∥ LeastTable arcs table ∥₁ → LeastTable arcs table
-  table-held table h = ∥∥₁_elim h (table-prop table) (λ t. t)
+  pub table_held : (table : List (Option ℕ)) → ∥ LeastTable arcs table ∥₁ → LeastTable arcs table
+  table_held table h = ∥∥₁_elim h (table_prop table) (λ t. t)

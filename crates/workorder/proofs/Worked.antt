@@ -2,7 +2,7 @@
 use Rattle.std.proofs.Common.{◌≡◌, ℕ, zero, suc, ◌+◌, ◌-◌, ◌/◌, ◌%◌, ◌^◌, ◌<◌, ◌≤◌, Bool, true, cond, ◌&&◌, ◌||◌, eqb, leb, List, [], ◌∷◌, length, get_or, sym, refl, ap, ◌∙◌, subst, inl, inr, arith}
 use Rattle.std.proofs.lemmas.Bool.{and_from, and_parts, cases_lt, cond-true, eq-eqb, leb-true, or_left, or_right}
 use Rattle.workorder.proofs.Portfolios.{none_in_zero, without_less}
-use Rattle.workorder.proofs.WorkOrders.{order-ind, order-next, order-none}
+use Rattle.workorder.proofs.WorkOrders.{order_ind, order_next, order_none}
 use Rattle.workorder.specs.Figures.{Figures, arc, circle, closed, row}
 use Rattle.workorder.specs.Orders.{Holds, OrderFor}
 use Rattle.workorder.specs.Steps.{Leads, without}
@@ -40,8 +40,8 @@ at_number p (suc n) t k l =
 
 module _ (arcs : List Arc) (floors : List ℕ) where
   -- floors that rise no faster than the arcs cost are below every work order
-  floor-under : get_or floors 0 0 ≡ 0 → every_below (λ x. every_arc (lifts floors x) arcs) (length floors) ≡ true → (x c : ℕ) → OrderFor arcs x c → x < length floors → get_or floors x 0 ≤ c
-  floor-under zero-floor test = order-ind arcs (λ x c. x < length floors → get_or floors x 0 ≤ c) (λ _. omega arith) step
+  floor_under : get_or floors 0 0 ≡ 0 → every_below (λ x. every_arc (lifts floors x) arcs) (length floors) ≡ true → (x c : ℕ) → OrderFor arcs x c → x < length floors → get_or floors x 0 ≤ c
+  floor_under zero-floor test = order_ind arcs (λ x c. x < length floors → get_or floors x 0 ≤ c) (λ _. omega arith) step
     where
       step : (x c : ℕ) (a : Arc) → Holds x a.to → In a arcs → Leads (without x a.to) a.to a → OrderFor arcs (without x a.to) c
           → (without x a.to < length floors → get_or floors (without x a.to) 0 ≤ c) → x < length floors → get_or floors x 0 ≤ c + a.cents
@@ -57,16 +57,16 @@ module _ (arcs : List Arc) (floors : List ℕ) where
 -- parts 1 and 2, the one after the other
 circle_order : OrderFor circle 3 11
 circle_order =
-    order-next circle 3 10 (arc 1 2 1) (omega arith, refl)
-    (order-next circle 1 0 (arc 0 1 10) (omega arith, refl) (order-none circle) (In.head refl) (refl, inl refl))
+    order_next circle 3 10 (arc 1 2 1) (omega arith, refl)
+    (order_next circle 1 0 (arc 0 1 10) (omega arith, refl) (order_none circle) (In.head refl) (refl, inl refl))
     (In.tail (In.tail (In.head refl))) (refl, inr (omega arith, refl))
 
 row_first_order : OrderFor row 1 364
-row_first_order = order-next row 1 0 (arc 0 1 364) (omega arith, refl) (order-none row) (In.head refl) (refl, inl refl)
+row_first_order = order_next row 1 0 (arc 0 1 364) (omega arith, refl) (order_none row) (In.head refl) (refl, inl refl)
 
 row_order : OrderFor row 3 891
 row_order =
-    order-next row 3 364 (arc 1 2 527) (omega arith, refl) row_first_order (In.tail (In.tail (In.head refl))) (refl, inr (omega arith, refl))
+    order_next row 3 364 (arc 1 2 527) (omega arith, refl) row_first_order (In.tail (In.tail (In.head refl))) (refl, inr (omega arith, refl))
 
 circle_floors : List ℕ
 circle_floors = 0 ∷ 10 ∷ 10 ∷ 11 ∷ []
@@ -76,7 +76,7 @@ row_floors = 0 ∷ 364 ∷ 828 ∷ 891 ∷ []
 
 -- with no arc from the door nothing is done
 closed_does_nothing : (x c : ℕ) → OrderFor closed x c → x ≡ 0
-closed_does_nothing = order-ind closed (λ x c. x ≡ 0) refl step
+closed_does_nothing = order_ind closed (λ x c. x ≡ 0) refl step
   where
     inside : (a : Arc) → In a closed → a.from ≡ 0 → ⊥
     inside a m e =
@@ -90,8 +90,8 @@ pub figures : Figures
 unfolding circle_floors row_floors
 figures =
     record {
-      circle_both = (∣ circle_order ∣₁, λ d o. floor-under circle circle_floors refl refl 3 d o (omega arith));
-      row_both = (∣ row_order ∣₁, λ d o. floor-under row row_floors refl refl 3 d o (omega arith));
-      row_first = (∣ row_first_order ∣₁, λ d o. floor-under row row_floors refl refl 1 d o (omega arith));
+      circle_both = (∣ circle_order ∣₁, λ d o. floor_under circle circle_floors refl refl 3 d o (omega arith));
+      row_both = (∣ row_order ∣₁, λ d o. floor_under row row_floors refl refl 3 d o (omega arith));
+      row_first = (∣ row_first_order ∣₁, λ d o. floor_under row row_floors refl refl 1 d o (omega arith));
       closed_both = λ c o. omega (arith, closed_does_nothing 3 c o);
     }

@@ -6,9 +6,9 @@
 #![tactic(auto)]
 
 ghost use Rattle.std.specs.Prelude.{◌≡◌, ℕ, ◌*◌, ◌^◌, ◌<◌, [], ◌∷◌, set, replicate, Some, None, Decides, Option, slice_index_or, slice_set};
-ghost use Rattle.workorder.specs.Figures.{Figures, arc as the_arc, circle as the-circle, closed as the-closed, row as the_row};
+ghost use Rattle.workorder.specs.Figures.{Figures, arc as the_arc, circle as the_circle, closed as the_closed, row as the_row};
 ghost use Rattle.workorder.specs.Orders.{AtMost, Holds, Least, LeastOf, LeastTable, NoneDearer, max_parts, portfolios};
-ghost use Rattle.workorder.specs.Steps.{ArcFor, EndsWith, RightBelow, Usable, lesser as the-lesser, sum as the_sum, without as the_rest};
+ghost use Rattle.workorder.specs.Steps.{ArcFor, EndsWith, RightBelow, Usable, lesser as the_lesser, sum as the_sum, without as the_rest};
 
 // The largest number of parts.
 pub const MAX_PARTS: usize = 6;
@@ -44,7 +44,7 @@ pub fn holds(portfolio: usize, part: usize) -> bool
 
 // The lesser of two numbers, each of which may be absent.
 fn lesser(best: Option<u64>, other: Option<u64>) -> Option<u64>
-    ensures { result ≡ the-lesser best other }
+    ensures { result ≡ the_lesser best other }
 {
     match (best, other) {
         (Some(a), Some(b)) => Some(a.min(b)),
@@ -153,7 +153,7 @@ pub fn least_work_orders(arcs: &[Arc]) -> [Option<u64>; PORTFOLIOS]
 
 // Either of parts 1 and 2 can be done after the other for 1, but one of them is done first, from the door for 10.
 fn circle() -> [Arc; 4]
-    ensures { result ≡ the-circle }
+    ensures { result ≡ the_circle }
 {
     [
         Arc::new(0, 1, 10),
@@ -176,7 +176,7 @@ fn row() -> [Arc; 3]
 
 // No part can be done first.
 fn closed() -> [Arc; 2]
-    ensures { result ≡ the-closed }
+    ensures { result ≡ the_closed }
 {
     [Arc::new(1, 2, 1), Arc::new(2, 1, 1)]
 }

@@ -1,6 +1,6 @@
 use Rattle.std.proofs.Common.{◌^◌}
 use Rattle.std.proofs.lemmas.List.{take_all}
-use Rattle.workorder.proofs.Arcs.{no_arc, cheapest-more}
+use Rattle.workorder.proofs.Arcs.{no_arc, cheapest_more}
 use Rattle.workorder.proofs.Leasts.{lesser_at_most}
 use Rattle.workorder.proofs.cheapest_arc.Goals as goal
 
@@ -9,7 +9,7 @@ loop-arc-init c = (no_arc c.args.done c.args.part, tt)
 
 pub loop-arc-preserved : goal.loop-arc-preserved
 loop-arc-preserved c = (
-  cheapest-more c.args.done c.args.part c.args.arcs.now c.loop-arc.arc-index (record { from = 0; to = 0; cents = 0 }) c.loop-arc.best
+  cheapest_more c.args.done c.args.part c.args.arcs.now c.loop-arc.arc-index (record { from = 0; to = 0; cents = 0 }) c.loop-arc.best
       c.usable_cents.result c.lesser-best.result c.loop-arc-test.true c.loop-arc.invariant.0 c.usable_cents.ensures.cents c.lesser-best.ensures,
   lesser_at_most (2 ^ 32) c.loop-arc.best c.usable_cents.result c.lesser-best.result c.loop-arc.invariant.1 c.usable_cents.ensures.small
       c.lesser-best.ensures,

@@ -1,14 +1,14 @@
-use Rattle.workorder.proofs.WorkOrders.{right-first, right-more, table-bounded, table-only}
+use Rattle.workorder.proofs.WorkOrders.{right_first, right_more, table_bounded, table_only}
 use Rattle.workorder.proofs.least_work_orders.Goals as goal
 use Rattle.workorder.specs.Orders.{LeastTable}
 use Rattle.std.proofs.Common.{arith}
 
 pub loop-portfolio-init : goal.loop-portfolio-init
-loop-portfolio-init c = right-first c.args.arcs.now c.first_table-table.result c.first_table-table.ensures
+loop-portfolio-init c = right_first c.args.arcs.now c.first_table-table.result c.first_table-table.ensures
 
 pub loop-portfolio-preserved : goal.loop-portfolio-preserved
 loop-portfolio-preserved c =
-    right-more c.args.arcs.now c.loop-portfolio.portfolio c.loop-portfolio.table c.least_for-least.result (omega arith)
+    right_more c.args.arcs.now c.loop-portfolio.portfolio c.loop-portfolio.table c.least_for-least.result (omega arith)
     c.loop-portfolio.invariant c.least_for-least.ensures.least c.least_for-least.ensures.small
 
 pub returns : goal.returns
@@ -16,4 +16,4 @@ returns c =
     let arcs = c.args.arcs.now in
     let table = c.loop-portfolio.table in
     let right : LeastTable arcs table = record { long = c.loop-portfolio.invariant.long; least = λ x l. c.loop-portfolio.invariant.least x (omega arith) } in
-    record { table = right; only = table-only arcs table right; bounded = table-bounded arcs table right }
+    record { table = right; only = table_only arcs table right; bounded = table_bounded arcs table right }

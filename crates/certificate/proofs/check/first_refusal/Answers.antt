@@ -3,7 +3,7 @@ use Rattle.std.proofs.lemmas.Bool.{cond-false}
 use Rattle.certificate.specs.declared.refusal.Refusal.TheVariants.{BeyondReach}
 use Rattle.certificate.specs.Refusals.{level, first_fault, value_fault, state_fault, or_else}
 use Rattle.certificate.proofs.Faults.{level_map, none_of}
-use Rattle.certificate.proofs.Refused.{or_first, within-from, refused-claim, refused-later}
+use Rattle.certificate.proofs.Refused.{or_first, within_from, refused_claim, refused_later}
 use Rattle.certificate.proofs.check.first_refusal.Goals as goal
 
 pub returns-then-not-level : goal.returns-then-not-level
@@ -19,7 +19,7 @@ returns-then-not-claims_near g c =
     let same = sym c.level.ensures ∙ c.if-not-level.false in
     let far = sym c.claims_near.ensures ∙ c.if-not-claims_near.true in
     ap (λ n. Some (BeyondReach n)) c.states.ensures
-    ∙ sym (refused-claim row (g.P.Plant.model c.args.plant.now) c.args.values.now c.args.policy.now same (g.T.Tariff.scale c.args.tariff.now) (row c.args.low) (row c.args.high) far)
+    ∙ sym (refused_claim row (g.P.Plant.model c.args.plant.now) c.args.values.now c.args.policy.now same (g.T.Tariff.scale c.args.tariff.now) (row c.args.low) (row c.args.high) far)
 
 pub returns-then-is_some : goal.returns-then-is_some
 returns-then-is_some g c =
@@ -32,7 +32,7 @@ returns-then-is_some g c =
     let near = sym c.claims_near.ensures ∙ c.if-not-claims_near.false in
     let is = c.value_beyond-beyond.ensures in
     is
-    ∙ sym (refused-later row m xs ps same t (row c.args.low) (row c.args.high) near
+    ∙ sym (refused_later row m xs ps same t (row c.args.low) (row c.args.high) near
     ∙ or_first (first_fault (value_fault t (map row xs)) (length xs)) (first_fault (state_fault m t (map row xs) ps (row c.args.low) (row c.args.high)) (length ps))
     (sym (ap is_some is) ∙ sym c.is_some.ensures ∙ c.if-is_some.true))
 
@@ -41,7 +41,7 @@ first_broken-requires g c =
     let row = g.T.Tariff.row in
     let same = sym c.level.ensures ∙ c.if-not-level.false in
     let none = none_of c.value_beyond-beyond.result (sym c.is_some.ensures ∙ c.if-is_some.false) in
-    within-from row (g.P.Plant.model c.args.plant.now) c.args.values.now c.args.policy.now same (g.T.Tariff.scale c.args.tariff.now) (sym c.value_beyond-beyond.ensures ∙ none)
+    within_from row (g.P.Plant.model c.args.plant.now) c.args.values.now c.args.policy.now same (g.T.Tariff.scale c.args.tariff.now) (sym c.value_beyond-beyond.ensures ∙ none)
 
 pub returns : goal.returns
 returns g c =
@@ -54,5 +54,5 @@ returns g c =
     let near = sym c.claims_near.ensures ∙ c.if-not-claims_near.false in
     let none = sym c.value_beyond-beyond.ensures ∙ none_of c.value_beyond-beyond.result (sym c.is_some.ensures ∙ c.if-is_some.false) in
     c.first_broken.ensures
-    ∙ sym (refused-later row m xs ps same t (row c.args.low) (row c.args.high) near
+    ∙ sym (refused_later row m xs ps same t (row c.args.low) (row c.args.high) near
     ∙ ap (λ z. or_else z (first_fault (state_fault m t (map row xs) ps (row c.args.low) (row c.args.high)) (length ps))) none)

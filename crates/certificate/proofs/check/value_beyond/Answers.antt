@@ -4,7 +4,7 @@ use Rattle.interface.specs.Rows.{reach}
 use Rattle.lookahead.specs.Gains.{most_value, value_of}
 use Rattle.certificate.specs.declared.refusal.Refusal.TheVariants.{BeyondReach}
 use Rattle.certificate.specs.Refusals.{value_fault}
-use Rattle.certificate.proofs.Faults.{fault-at, fault-more, value_read}
+use Rattle.certificate.proofs.Faults.{fault_at, fault_more, value_read}
 use Rattle.certificate.proofs.check.value_beyond.Goals as goal
 
 pub returns-then-reach-gt-MOST_VALUE : goal.returns-then-reach-gt-MOST_VALUE
@@ -16,7 +16,7 @@ returns-then-reach-gt-MOST_VALUE g c =
     let is : c.reach.result ≡ reach (value_of t vs s) =
     c.reach.ensures ∙ sym (ap reach (value_read row t c.args.values.now s c.index-values-s.result c.loop-s-test.true c.index-values-s.is)) in
     let no_way : leb (reach (value_of t vs s)) most_value ≡ false = sym (ap (λ n. leb n most_value) is) ∙ lt-leb c.reach.result most_value c.if-reach-gt-MOST_VALUE.true in
-    sym (fault-at (value_fault t vs) _ s (BeyondReach s) c.loop-s-test.true c.loop-s.invariant (ap (λ z. cond z None (Some (BeyondReach s))) no_way))
+    sym (fault_at (value_fault t vs) _ s (BeyondReach s) c.loop-s-test.true c.loop-s.invariant (ap (λ z. cond z None (Some (BeyondReach s))) no_way))
 
 pub loop-s-preserved : goal.loop-s-preserved
 loop-s-preserved g c =
@@ -27,4 +27,4 @@ loop-s-preserved g c =
     let is : c.reach.result ≡ reach (value_of t vs s) =
     c.reach.ensures ∙ sym (ap reach (value_read row t c.args.values.now s c.index-values-s.result c.loop-s-test.true c.index-values-s.is)) in
     let near : leb (reach (value_of t vs s)) most_value ≡ true = sym (ap (λ n. leb n most_value) is) ∙ le-leb c.reach.result most_value c.if-reach-gt-MOST_VALUE.false in
-    fault-more (value_fault t vs) s c.loop-s.invariant (ap (λ z. cond z None (Some (BeyondReach s))) near)
+    fault_more (value_fault t vs) s c.loop-s.invariant (ap (λ z. cond z None (Some (BeyondReach s))) near)

@@ -3,7 +3,7 @@ use Rattle.std.proofs.lemmas.Bool.{cond-false}
 use Rattle.certificate.specs.Recipes.{policy_fault}
 use Rattle.certificate.specs.Refusals.{level, first_fault, value_fault, or_else}
 use Rattle.certificate.proofs.Faults.{level_map, none_of}
-use Rattle.certificate.proofs.Refused.{or_first, recipe-later}
+use Rattle.certificate.proofs.Refused.{or_first, recipe_later}
 use Rattle.certificate.proofs.recipe.first_refusal.Goals as goal
 
 pub returns-then-not-level : goal.returns-then-not-level
@@ -23,7 +23,7 @@ returns-then-is_some g c =
     let same = sym c.level.ensures ∙ c.if-not-level.false in
     let is = c.value_beyond-beyond.ensures in
     is
-    ∙ sym (recipe-later row m xs ps same t
+    ∙ sym (recipe_later row m xs ps same t
     ∙ or_first (first_fault (value_fault t (map row xs)) (length xs)) (first_fault (policy_fault m ps) (length ps)) (sym (ap is_some is) ∙ sym c.is_some.ensures ∙ c.if-is_some.true))
 
 pub returns : goal.returns
@@ -36,4 +36,4 @@ returns g c =
     let same = sym c.level.ensures ∙ c.if-not-level.false in
     let none = sym c.value_beyond-beyond.ensures ∙ none_of c.value_beyond-beyond.result (sym c.is_some.ensures ∙ c.if-is_some.false) in
     c.policy_refusal.ensures
-    ∙ sym (recipe-later row m xs ps same t ∙ ap (λ z. or_else z (first_fault (policy_fault m ps) (length ps))) none)
+    ∙ sym (recipe_later row m xs ps same t ∙ ap (λ z. or_else z (first_fault (policy_fault m ps) (length ps))) none)

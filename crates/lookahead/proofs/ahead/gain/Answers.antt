@@ -1,6 +1,6 @@
 use Rattle.std.proofs.Common.{map, ◌∙◌}
 use Rattle.lookahead.specs.Gains.{gain}
-use Rattle.lookahead.proofs.Bounds.{gain-answer, fits_map}
+use Rattle.lookahead.proofs.Bounds.{gain_answer, fits_map}
 use Rattle.lookahead.proofs.Optional.{answers}
 use Rattle.lookahead.proofs.ahead.gain.Goals as goal
 
@@ -13,5 +13,5 @@ returns g c =
     record {
       steps = c.gain_by_steps.ensures;
       within = λ w. answers g.T.Tariff.row c.gain_by_steps.result (m.feasible c.args.state c.args.portfolio) (gain m t vs c.args.state c.args.portfolio)
-          (c.gain_by_steps.ensures ∙ gain-answer m (g.met.P.Plant.lawful c.args.plant.now) t (g.met.T.Tariff.lawful c.args.tariff.now) vs w fit c.args.state c.args.portfolio);
+          (c.gain_by_steps.ensures ∙ gain_answer m (g.met.P.Plant.lawful c.args.plant.now) t (g.met.T.Tariff.lawful c.args.tariff.now) vs w fit c.args.state c.args.portfolio);
     }

@@ -1,6 +1,6 @@
 use Rattle.std.proofs.Common.{map, ◌∙◌}
 use Rattle.lookahead.specs.Gains.{look_ahead}
-use Rattle.lookahead.proofs.Bounds.{ahead-answer, fits_map}
+use Rattle.lookahead.proofs.Bounds.{ahead_answer, fits_map}
 use Rattle.lookahead.proofs.Optional.{answers}
 use Rattle.lookahead.proofs.ahead.look_ahead.Goals as goal
 
@@ -13,5 +13,5 @@ returns g c =
     record {
       steps = c.ahead_by_steps.ensures;
       within = λ w. answers g.T.Tariff.row c.ahead_by_steps.result (m.feasible c.args.state c.args.portfolio) (look_ahead m t vs c.args.state c.args.portfolio)
-          (c.ahead_by_steps.ensures ∙ ahead-answer m (g.met.P.Plant.lawful c.args.plant.now) t (g.met.T.Tariff.lawful c.args.tariff.now) vs w fit c.args.state c.args.portfolio);
+          (c.ahead_by_steps.ensures ∙ ahead_answer m (g.met.P.Plant.lawful c.args.plant.now) t (g.met.T.Tariff.lawful c.args.tariff.now) vs w fit c.args.state c.args.portfolio);
     }

@@ -10,7 +10,7 @@ use Rattle.pairtext.specs.Texts.{Reading, refused_at, numbers_read, judged, read
 use Rattle.pairtext.proofs.PairTextLaw.{pair_text_law}
 use Rattle.pairtext.proofs.SampleLaws.{sample_read}
 use Rattle.pairtext.proofs.Soundness.{fresh_sound, step_sound}
-use Rattle.pairtext.proofs.TextLaws.{step_refused, step_made, goes-fault, goes-refused, goes-closed, goes_on, Goes, goes_at}
+use Rattle.pairtext.proofs.TextLaws.{step_refused, step_made, goes_fault, goes_refused, goes_closed, goes_on, Goes, goes_at}
 use Rattle.pairtext.proofs.text.read_pair.Goals as goal
 
 pub loop-name-init : goal.loop-name-init
@@ -28,7 +28,7 @@ returns-in-Fault c =
     let read = c.next_line-read.ensures in
     let says : said c.next_line-read.result.line ≡ fault c.in-Fault.fault = ap said c.in-Fault.is in
     let line : fault c.in-Fault.fault ≡ line_at text = sym says ∙ read.line in
-    let g : read_pair c.args.lines.now.rest.now c.args.lines.now.place ≡ record { answer = refused_at (fault_rule c.in-Fault.fault) (place + 1); rest = text; place = place } = goes-fault c.loop-name.reader text place _ c.in-Fault.fault line c.loop-name.invariant.1 in
+    let g : read_pair c.args.lines.now.rest.now c.args.lines.now.place ≡ record { answer = refused_at (fault_rule c.in-Fault.fault) (place + 1); rest = text; place = place } = goes_fault c.loop-name.reader text place _ c.in-Fault.fault line c.loop-name.invariant.1 in
     let answer = (λ i. refused_at (c.fault_rule-rule.ensures i) (read.place i)) ∙ sym (ap (λ (z : Reading). z.answer) g) in
     let rest = read.rest ∙ ap (λ s. left_by s text) (sym line) ∙ sym (ap (λ (z : Reading). z.rest) g) in
     record {
@@ -49,7 +49,7 @@ returns-in-Err c =
     let says : said c.next_line-read.result.line ≡ pair k v = ap said c.in-Pair.is in
     let line : pair k v ≡ line_at text = sym says ∙ read.line in
     let step : pair_step c.loop-name.reader (key_of k) v ≡ Err c.in-Err.rule = ap (λ key. pair_step c.loop-name.reader key v) (sym c.key_of.ensures.value) ∙ step_refused _ _ c.in-Err.ensures.answer in
-    let g : read_pair c.args.lines.now.rest.now c.args.lines.now.place ≡ record { answer = refused_at c.in-Err.rule (place + 1); rest = rest_at text; place = place + 1 } = goes-refused c.loop-name.reader text place _ k v line c.in-Err.rule step c.loop-name.invariant.1 in
+    let g : read_pair c.args.lines.now.rest.now c.args.lines.now.place ≡ record { answer = refused_at c.in-Err.rule (place + 1); rest = rest_at text; place = place + 1 } = goes_refused c.loop-name.reader text place _ k v line c.in-Err.rule step c.loop-name.invariant.1 in
     let answer = ap (refused_at c.in-Err.rule) read.place ∙ sym (ap (λ (z : Reading). z.answer) g) in
     let rest = read.rest ∙ sym (ap (λ (z : Reading). z.rest) g) in
     record {
@@ -76,7 +76,7 @@ returns-then-is_complete c =
     let says : said c.next_line-read.result.line ≡ pair k v = ap said c.in-Pair.is in
     let line : pair k v ≡ line_at text = sym says ∙ read.line in
     let step : pair_step c.loop-name.reader (key_of k) v ≡ Ok next = ap (λ key. pair_step c.loop-name.reader key v) (sym c.key_of.ensures.value) ∙ step_made _ c.loop-name.reader next _ c.in_default.ensures.answer c.in_default.ensures.after in
-    let g : read_pair c.args.lines.now.rest.now c.args.lines.now.place ≡ record { answer = judged (numbers_read next) (place + 1); rest = rest_at text; place = place + 1 } = goes-closed c.loop-name.reader text place _ k v line next step (sym c.if-is_complete.ensures) c.loop-name.invariant.1 in
+    let g : read_pair c.args.lines.now.rest.now c.args.lines.now.place ≡ record { answer = judged (numbers_read next) (place + 1); rest = rest_at text; place = place + 1 } = goes_closed c.loop-name.reader text place _ k v line next step (sym c.if-is_complete.ensures) c.loop-name.invariant.1 in
     let answer = c.close.ensures ∙ ap (judged (numbers_read next)) read.place ∙ sym (ap (λ (z : Reading). z.answer) g) in
     let rest = read.rest ∙ sym (ap (λ (z : Reading). z.rest) g) in
     record {

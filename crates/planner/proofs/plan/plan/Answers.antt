@@ -5,11 +5,11 @@ use Rattle.interface.specs.Tariffs.{Scale}
 use Rattle.certificate.specs.declared.recipe.Claims.{Claims}
 use Rattle.planner.specs.declared.refusal.Refusal.{Refusal}
 use Rattle.planner.specs.Answers.{Tables, Answer, Only}
-use Rattle.planner.proofs.Unique.{swept-one}
+use Rattle.planner.proofs.Unique.{swept_one}
 use Rattle.planner.proofs.plan.plan.Goals as goal
 
 only : {A : Type 0} (row : A → Row) (m : Model) (t : Scale) (n : ℕ) (b b' : Tables A) (r : Result (Claims A) Refusal) → Answer row m t n b b' r → Only row m t n b' r
-only row m t n b b' (Ok c) h = λ vs swept. swept-one m t h.2.swept swept
+only row m t n b b' (Ok c) h = λ vs swept. swept_one m t h.2.swept swept
 only row m t n b b' (Err e) h = tt
 
 pub returns : goal.returns

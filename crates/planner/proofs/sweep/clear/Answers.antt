@@ -1,6 +1,6 @@
 use Rattle.std.proofs.Common.{◌<◌, ◌≤◌, length, arith}
 use Rattle.interface.specs.Rows.{zeros}
-use Rattle.planner.proofs.Fills.{fill_more, fill-all}
+use Rattle.planner.proofs.Fills.{fill_more, fill_all}
 use Rattle.planner.proofs.sweep.clear.Goals as goal
 
 pub loop-cell-preserved : goal.loop-cell-preserved
@@ -11,4 +11,4 @@ loop-cell-preserved g c =
 pub returns : goal.returns
 returns g c =
     let all : length c.loop-cell.table ≤ c.loop-cell.cell-index = omega arith in
-    fill-all g.T.Tariff.row (zeros (g.T.Tariff.scale c.args.tariff.now).places) c.loop-cell.table c.loop-cell.cell-index (length c.args.table.now) all (omega arith) c.loop-cell.invariant
+    fill_all g.T.Tariff.row (zeros (g.T.Tariff.scale c.args.tariff.now).places) c.loop-cell.table c.loop-cell.cell-index (length c.args.table.now) all (omega arith) c.loop-cell.invariant

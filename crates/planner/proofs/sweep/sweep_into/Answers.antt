@@ -5,7 +5,7 @@ use Rattle.lookahead.specs.Gains.{most_value}
 use Rattle.lookahead.proofs.Bounds.{fits_map}
 use Rattle.certificate.proofs.Soundness.{near_from_each}
 use Rattle.planner.specs.Sweeps.{Fresh, NewValue}
-use Rattle.planner.proofs.Shares.{shared_reach, written-here, written-elsewhere}
+use Rattle.planner.proofs.Shares.{shared_reach, written_here, written_elsewhere}
 use Rattle.planner.proofs.sweep.sweep_into.Goals as goal
 
 pub apart-value-requires : goal.apart-value-requires
@@ -52,12 +52,12 @@ loop-state-preserved g c =
       is = c.apart-value.ensures;
     } in
     let near : reach (row v) ≤ most_value = omega arith in
-    let here = written-here row t ws s v inside in
+    let here = written_here row t ws s v inside in
     below_more (λ k. Fresh m t vs (map row (set ws s v)) k) s
     (λ k l.
     let fresh = c.loop-state.invariant k l in
     let other : k ≢ s = omega arith in
-    let same = sym (written-elsewhere row t ws s v k other) in
+    let same = sym (written_elsewhere row t ws s v k other) in
     record { new = subst (NewValue m t vs k) same fresh.new; near = subst (λ w. reach w ≤ most_value) same fresh.near })
     (record { new = subst (NewValue m t vs s) (sym here) new; near = subst (λ w. reach w ≤ most_value) (sym here) near })
 

@@ -6,7 +6,7 @@ use Rattle.lines.specs.Placed.{end_of, placed}
 use Rattle.plantext.specs.declared.stage.Stage.{Stage}
 use Rattle.plantext.specs.Lines.{Plan, stages, stage_line, plan_lines}
 use Rattle.plantext.specs.Spaces.{level, line_room, HeldLine}
-use Rattle.plantext.proofs.LineLaws.{line_at, put_front, not-level, past-last, line-written, line-too-long, no_room}
+use Rattle.plantext.proofs.LineLaws.{line_at, put_front, not_level, past_last, line_written, line_too_long, no_room}
 use Rattle.plantext.proofs.writing.plan_line.Goals as goal
 
 -- the tables are level as rows too
@@ -26,7 +26,7 @@ stage_held places p xs j a b same found is h =
 
 pub returns-then-not-is_level : goal.returns-then-not-is_level
 returns-then-not-is_level g c = record {
-  line = not-level _ c.args.j c.args.space.now (level_rows g.T.Tariff.row c.args.values.now (length c.args.policy.now) c.if-not-is_level.ensures);
+  line = not_level _ c.args.j c.args.space.now (level_rows g.T.Tariff.row c.args.values.now (length c.args.policy.now) c.if-not-is_level.ensures);
   held = tt;
   tight = tt;
 }
@@ -35,7 +35,7 @@ pub returns-in_default : goal.returns-in_default
 returns-in_default g c =
     let p : Plan = record { values = map g.T.Tariff.row c.args.values.now; policy = c.args.policy.now; low = g.T.Tariff.row c.args.low; high = g.T.Tariff.row c.args.high } in
     let h = level_rows g.T.Tariff.row c.args.values.now (length c.args.policy.now) c.if-not-is_level.ensures in
-    record { line = past-last p c.args.j c.args.space.now h (line_found p c.args.values.now c.args.j None (length-map c.args.values.now g.T.Tariff.row) c.in_default.ensures.value); held = tt; tight = tt }
+    record { line = past_last p c.args.j c.args.space.now h (line_found p c.args.values.now c.args.j None (length-map c.args.values.now g.T.Tariff.row) c.in_default.ensures.value); held = tt; tight = tt }
 
 pub returns-in-Some-write_bytes : goal.returns-in-Some-write_bytes
 returns-in-Some-write_bytes g c =
@@ -46,7 +46,7 @@ returns-in-Some-write_bytes g c =
     let front = put_front c.put_line-length.ensures.text in
     let wrote = c.in-Some-write_bytes.ensures in
     record {
-      line = line-written p c.args.j c.args.space.now h l c.write_bytes.new.out c.in-Some-write_bytes.end is (sym (wrote.end ∙ ap (λ t. end_of t 0 c.args.space.now) front)) (wrote.after ∙ ap (λ t. placed t 0 c.args.space.now) front);
+      line = line_written p c.args.j c.args.space.now h l c.write_bytes.new.out c.in-Some-write_bytes.end is (sym (wrote.end ∙ ap (λ t. end_of t 0 c.args.space.now) front)) (wrote.after ∙ ap (λ t. placed t 0 c.args.space.now) front);
       held = λ st e. stage_held (g.T.Tariff.scale c.args.tariff.now).places p c.args.values.now c.args.j c.in-Some.stage st (length-map c.args.values.now g.T.Tariff.row) c.in-Some.ensures.value e c.put_line-length.ensures.held;
       tight = tt;
     }
@@ -60,4 +60,4 @@ returns-in-None g c =
     let front = put_front c.put_line-length.ensures.text in
     let wrote = c.in-None.ensures in
     let room : length c.put_line-length.new.out ≡ line_room = search rules in
-    record { line = line-too-long p c.args.j c.args.space.now h l c.write_bytes.new.out is (sym (wrote.end ∙ ap (λ t. end_of t 0 c.args.space.now) front)) (wrote.after ∙ ap (λ t. placed t 0 c.args.space.now) front); held = tt; tight = omega (arith, no_room (c.put_line-length.result - 0) c.put_line-length.new.out c.args.space.now wrote.end, room) }
+    record { line = line_too_long p c.args.j c.args.space.now h l c.write_bytes.new.out is (sym (wrote.end ∙ ap (λ t. end_of t 0 c.args.space.now) front)) (wrote.after ∙ ap (λ t. placed t 0 c.args.space.now) front); held = tt; tight = omega (arith, no_room (c.put_line-length.result - 0) c.put_line-length.new.out c.args.space.now wrote.end, room) }

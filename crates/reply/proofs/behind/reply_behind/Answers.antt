@@ -1,5 +1,5 @@
 use Rattle.std.proofs.Common.{None, refl}
-use Rattle.reply.proofs.NextLines.{at-sweeps, at_end, at_last, tail}
+use Rattle.reply.proofs.NextLines.{at_sweeps, at_end, at_last, tail}
 use Rattle.reply.proofs.behind.reply_behind.Goals as goal
 
 pub returns-in-Err-read_sweeps : goal.returns-in-Err-read_sweeps
@@ -7,7 +7,7 @@ returns-in-Err-read_sweeps g c =
     let t = c.in-Ok.ensures in
     let s = c.in-Err-read_sweeps.ensures in
     let m = g.P.Plant.model c.args.plant.now in
-    at-sweeps m c.args.lines.now.rest.now c.args.lines.now.place c.in-Ok.tariff t.value c.read_tariff.new.lines.rest.now c.read_tariff.new.lines.place t.rest t.count _ _ s.value refl
+    at_sweeps m c.args.lines.now.rest.now c.args.lines.now.place c.in-Ok.tariff t.value c.read_tariff.new.lines.rest.now c.read_tariff.new.lines.place t.rest t.count _ _ s.value refl
 
 pub returns-in-Some : goal.returns-in-Some
 returns-in-Some g c =

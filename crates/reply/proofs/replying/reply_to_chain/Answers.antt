@@ -1,13 +1,13 @@
 use Rattle.std.proofs.Common.{Ok, Err, refl}
-use Rattle.reply.proofs.Beginnings.{follows, from-chain, chain-requested}
+use Rattle.reply.proofs.Beginnings.{follows, from_chain, chain_requested}
 use Rattle.reply.proofs.replying.reply_to_chain.Goals as goal
 
 pub returns-in-Ok : goal.returns-in-Ok
 returns-in-Ok c =
     let e = c.in-Ok.ensures in
-    follows c.reply_behind.result (from-chain c.args.text.now c.new-lines.result.rest.now c.new-lines.result.place c.new-lines.ensures.rest c.new-lines.ensures.place c.read_chain.new.lines.rest.now c.read_chain.new.lines.place (Ok c.in-Ok.chain) e.counts e.law) (chain-requested c.args.text.now c.new-lines.result.rest.now c.new-lines.result.place c.new-lines.ensures.rest c.new-lines.ensures.place c.read_chain.new.lines.rest.now c.read_chain.new.lines.place c.in-Ok.chain e.law) c.reply_behind.ensures
+    follows c.reply_behind.result (from_chain c.args.text.now c.new-lines.result.rest.now c.new-lines.result.place c.new-lines.ensures.rest c.new-lines.ensures.place c.read_chain.new.lines.rest.now c.read_chain.new.lines.place (Ok c.in-Ok.chain) e.counts e.law) (chain_requested c.args.text.now c.new-lines.result.rest.now c.new-lines.result.place c.new-lines.ensures.rest c.new-lines.ensures.place c.read_chain.new.lines.rest.now c.read_chain.new.lines.place c.in-Ok.chain e.law) c.reply_behind.ensures
 
 pub returns-in-Err : goal.returns-in-Err
 returns-in-Err c =
     let e = c.in-Err.ensures in
-    from-chain c.args.text.now c.new-lines.result.rest.now c.new-lines.result.place c.new-lines.ensures.rest c.new-lines.ensures.place c.read_chain.new.lines.rest.now c.read_chain.new.lines.place (Err c.in-Err.refusal) e.counts e.law _ refl
+    from_chain c.args.text.now c.new-lines.result.rest.now c.new-lines.result.place c.new-lines.ensures.rest c.new-lines.ensures.place c.read_chain.new.lines.rest.now c.read_chain.new.lines.place (Err c.in-Err.refusal) e.counts e.law _ refl

@@ -2,7 +2,7 @@ use Rattle.std.proofs.Common.{◌≡◌, ◌+◌, ◌*◌, ◌/◌, ap, ◌∙�
 use Rattle.chain.specs.Numbering.{age_step}
 use Rattle.chain.specs.Renewals.{part_stuck}
 use Rattle.chain.specs.Sums.{every_not}
-use Rattle.chain.proofs.Turns.{SoFar, next_unfailed, number_fits, one_more, total-fits, width_fits}
+use Rattle.chain.proofs.Turns.{SoFar, next_unfailed, number_fits, one_more, total_fits, width_fits}
 use Rattle.chain.proofs.numbers.ChainNumbers.window.Goals as goal
 use Rattle.chain.proofs.numbers.ChainNumbers.window.Goals.{After-hazard-hazard, then-i-part, else-i-part}
 use Rattle.chain.specs.Parts.{hazard}
@@ -26,10 +26,10 @@ turn c =
     c.loop-i.invariant.0 (omega arith) c.life-life.ensures c.renews-renewed.ensures c.in-Some.ensures c.hazard-hazard.ensures
 
 pub overflow_mul-total : goal.overflow_mul-total
-overflow_mul-total c = omega (arith, total-fits c.args.self.now c.requires.0 c.requires.1.0 c.args.state c.args.portfolio (c.loop-i.i + 1) _ _ _ _ (turn c).0 (omega arith))
+overflow_mul-total c = omega (arith, total_fits c.args.self.now c.requires.0 c.requires.1.0 c.args.state c.args.portfolio (c.loop-i.i + 1) _ _ _ _ (turn c).0 (omega arith))
 
 pub overflow_add-total : goal.overflow_add-total
-overflow_add-total c = omega (arith, total-fits c.args.self.now c.requires.0 c.requires.1.0 c.args.state c.args.portfolio (c.loop-i.i + 1) _ _ _ _ (turn c).0 (omega arith))
+overflow_add-total c = omega (arith, total_fits c.args.self.now c.requires.0 c.requires.1.0 c.args.state c.args.portfolio (c.loop-i.i + 1) _ _ _ _ (turn c).0 (omega arith))
 
 pub overflow_mul-width : goal.overflow_mul-width
 overflow_mul-width c = omega (arith, width_fits c.args.self.now c.requires.0 c.requires.1.0 c.args.state c.args.portfolio (c.loop-i.i + 1) _ _ _ _ (turn c).0 (omega arith))

@@ -4,13 +4,13 @@ use Rattle.chain.proofs.plant.Chain.cents.Goals as goal
 use Rattle.chain.proofs.plant.Chain.cents.Goals.{After-unwrap_or-order}
 use Rattle.chain.specs.Limits.{most_charge}
 use Rattle.chain.specs.Parts.{arcs_of}
-use Rattle.workorder.proofs.WorkOrders.{table-held}
+use Rattle.workorder.proofs.WorkOrders.{table_held}
 use Rattle.workorder.specs.Orders.{max_parts}
 
 few : (c : goal.After-unwrap_or-order) → c.unwrap_or-order.result ≤ max_parts * most_charge
 few c =
     let p = c.args.self.now in
-    omega (arith, c.unwrap_or-order.ensures, order_few p.numbers p.least c.args.portfolio p.dearest (table-held (arcs_of p.numbers) p.least p.right) c.requires.0)
+    omega (arith, c.unwrap_or-order.ensures, order_few p.numbers p.least c.args.portfolio p.dearest (table_held (arcs_of p.numbers) p.least p.right) c.requires.0)
 
 pub overflow_cast-order : goal.overflow_cast-order
 overflow_cast-order c = omega (arith, few (goal.at.overflow_cast-order c).After-unwrap_or-order)

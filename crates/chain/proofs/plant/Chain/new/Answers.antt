@@ -1,5 +1,5 @@
 use Rattle.std.proofs.Common.{◌≡◌, ℕ, ◌-◌, take, subst, arith}
-use Rattle.chain.specs.Feasibility.{renewable-by}
+use Rattle.chain.specs.Feasibility.{renewable_by}
 use Rattle.chain.proofs.plant.Chain.new.Goals as goal
 use Rattle.chain.specs.Chains.{Renewable, Unrenewable}
 use Rattle.chain.specs.Parts.{arcs_of}
@@ -22,5 +22,5 @@ invariant_of-result c =
       counted = c.state_count-states.ensures;
       few = omega arith;
       right = ∣ right ∣₁;
-      renewable = renewable-by n table l.terms.0.1 right (when_true (Renewable n) (Unrenewable n) c.if-not-renewable.false c.renewable.ensures);
+      renewable = renewable_by n table l.terms.0.1 right (when_true (Renewable n) (Unrenewable n) c.if-not-renewable.false c.renewable.ensures);
     }

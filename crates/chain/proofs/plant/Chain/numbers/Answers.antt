@@ -1,9 +1,9 @@
 use Rattle.chain.proofs.Instance.{some_chain}
-use Rattle.chain.specs.LawsLemmas.{lawful_from, renewable-from}
+use Rattle.chain.specs.LawsLemmas.{lawful_from, renewable_from}
 use Rattle.chain.proofs.Meaning.{chain_laws, figures}
 use Rattle.chain.proofs.plant.Chain.numbers.Goals as goal
 use Rattle.chain.specs.Parts.{arcs_of}
-use Rattle.workorder.proofs.WorkOrders.{table-held}
+use Rattle.workorder.proofs.WorkOrders.{table_held}
 use Rattle.std.proofs.Common.{refl, arith}
 
 pub returns : goal.returns
@@ -11,10 +11,10 @@ returns c =
     let p = c.args.self.now in
     let n = p.numbers in
     let l = lawful_from n p.terms p.lives p.hazards p.charges p.dearest in
-    let right = table-held (arcs_of n) p.least p.right in
+    let right = table_held (arcs_of n) p.least p.right in
     record {
       value = refl;
-      made = record { lawful = l; few = omega (arith, p.counted, p.few); renewable = renewable-from n p.least l right p.renewable; least = right };
+      made = record { lawful = l; few = omega (arith, p.counted, p.few); renewable = renewable_from n p.least l right p.renewable; least = right };
       laws = chain_laws n p.least l right;
       figures = figures;
       met = some_chain;

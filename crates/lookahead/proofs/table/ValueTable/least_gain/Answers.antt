@@ -4,9 +4,9 @@ use Rattle.lookahead.specs.Best.{first_best, better, cheaper, where_feasible, Fi
 use Rattle.lookahead.specs.Choices.{pick}
 use Rattle.lookahead.specs.Gains.{Within, gain}
 use Rattle.lookahead.specs.Steps.{gain_steps}
-use Rattle.lookahead.proofs.Bounds.{fits_map, gain-answer}
+use Rattle.lookahead.proofs.Bounds.{fits_map, gain_answer}
 use Rattle.lookahead.proofs.Firsts.{first_best_same}
-use Rattle.lookahead.proofs.Leasts.{first_best_more, gain-fits, least-law}
+use Rattle.lookahead.proofs.Leasts.{first_best_more, gain_fits, least_law}
 use Rattle.lookahead.proofs.table.ValueTable.least_gain.Goals as goal
 
 pub loop-x-preserved : goal.loop-x-preserved
@@ -34,9 +34,9 @@ returns g c =
     c.loop-x.invariant ∙ ap (first_best (cheaper t) (gain_steps m t vs s)) all in
     let F = gain m t vs in
     let near : Within m vs → option_map (pick row) c.loop-x.least ≡ first_best (cheaper t) (where_feasible m F s) m.portfolios =
-    λ w. steps ∙ first_best_same (cheaper t) (gain_steps m t vs s) (where_feasible m F s) m.portfolios (λ k _. gain-answer m lawful t scaled vs w fit s k) in
+    λ w. steps ∙ first_best_same (cheaper t) (gain_steps m t vs s) (where_feasible m F s) m.portfolios (λ k _. gain_answer m lawful t scaled vs w fit s k) in
     record {
       steps = steps;
       within = near;
-      least = λ w. subst (FirstBest (cheaper t) (where_feasible m F s) m.portfolios) (sym (near w)) (least-law m t scaled F (gain-fits m lawful t scaled vs w.long fit) s m.portfolios);
+      least = λ w. subst (FirstBest (cheaper t) (where_feasible m F s) m.portfolios) (sym (near w)) (least_law m t scaled F (gain_fits m lawful t scaled vs w.long fit) s m.portfolios);
     }

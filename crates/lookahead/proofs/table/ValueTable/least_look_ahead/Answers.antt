@@ -4,9 +4,9 @@ use Rattle.lookahead.specs.Best.{first_best, better, cheaper, where_feasible, Fi
 use Rattle.lookahead.specs.Choices.{pick}
 use Rattle.lookahead.specs.Gains.{Within, look_ahead}
 use Rattle.lookahead.specs.Steps.{look_ahead_steps}
-use Rattle.lookahead.proofs.Bounds.{fits_map, ahead-answer}
+use Rattle.lookahead.proofs.Bounds.{fits_map, ahead_answer}
 use Rattle.lookahead.proofs.Firsts.{first_best_same}
-use Rattle.lookahead.proofs.Leasts.{first_best_more, ahead-fits, least-law}
+use Rattle.lookahead.proofs.Leasts.{first_best_more, ahead_fits, least_law}
 use Rattle.lookahead.proofs.table.ValueTable.least_look_ahead.Goals as goal
 
 pub loop-x-preserved : goal.loop-x-preserved
@@ -34,9 +34,9 @@ returns g c =
     c.loop-x.invariant ∙ ap (first_best (cheaper t) (look_ahead_steps m t vs s)) all in
     let F = look_ahead m t vs in
     let near : Within m vs → option_map (pick row) c.loop-x.least ≡ first_best (cheaper t) (where_feasible m F s) m.portfolios =
-    λ w. steps ∙ first_best_same (cheaper t) (look_ahead_steps m t vs s) (where_feasible m F s) m.portfolios (λ k _. ahead-answer m lawful t scaled vs w fit s k) in
+    λ w. steps ∙ first_best_same (cheaper t) (look_ahead_steps m t vs s) (where_feasible m F s) m.portfolios (λ k _. ahead_answer m lawful t scaled vs w fit s k) in
     record {
       steps = steps;
       within = near;
-      least = λ w. subst (FirstBest (cheaper t) (where_feasible m F s) m.portfolios) (sym (near w)) (least-law m t scaled F (ahead-fits m lawful t scaled vs w.long fit) s m.portfolios);
+      least = λ w. subst (FirstBest (cheaper t) (where_feasible m F s) m.portfolios) (sym (near w)) (least_law m t scaled F (ahead_fits m lawful t scaled vs w.long fit) s m.portfolios);
     }
