@@ -2,6 +2,7 @@
 // and by which all code above knows them.
 #![tactic(auto)]
 
+pub mod claims;
 pub mod limits;
 pub mod places;
 pub mod plant;
