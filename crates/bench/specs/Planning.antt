@@ -4,7 +4,7 @@ use Rattle.std.specs.List.{slice_get}
 use Rattle.interface.specs.Plants.{Model}
 use Rattle.interface.specs.Rows.{Row}
 use Rattle.interface.specs.Tariffs.{Scale}
-use Rattle.certificate.specs.declared.recipe.Claims.{Claims}
+use Rattle.interface.specs.declared.claims.Claims.{Claims}
 use Rattle.tariffs.specs.declared.air_first.DarkThenCost.{DarkThenCost}
 use Rattle.tariffs.specs.declared.priced.Cost.{Cost}
 use Rattle.chain.specs.Chains.{chain_model}

@@ -6,8 +6,8 @@ ghost use Rattle.bench.specs.Digests.{mix as the_mix};
 ghost use Rattle.bench.specs.Planning.{with_row, plan_told, Plans, PlanMade, model_of, cost_row, dark_row};
 
 use crate::mixing::{mix, mix_place};
-use certificate::recipe::Claims;
 use chain::plant::Chain;
+use interface::claims::Claims;
 use interface::limits::MOST_STATES;
 use interface::plant::Plant;
 use interface::tariff::Tariff;

@@ -3,7 +3,7 @@ use Rattle.std.specs.Prelude.{◌≡◌, ℕ, List, Some, None, Ok, Err, Result}
 use Rattle.interface.specs.Plants.{Model}
 use Rattle.interface.specs.Rows.{Row}
 use Rattle.interface.specs.Tariffs.{Scale}
-use Rattle.certificate.specs.declared.recipe.Claims.{Claims}
+use Rattle.interface.specs.declared.claims.Claims.{Claims}
 use Rattle.certificate.specs.declared.refusal.Refusal.{Refusal}
 use Rattle.certificate.specs.Recipes.{Lowest, Highest, recipe_refusal}
 

@@ -10,6 +10,7 @@ ghost use Rattle.certificate.specs.Refusals.{refusal, first_fault, value_fault, 
 use crate::finding;
 use crate::finding::Finding;
 use crate::refusal::Refusal;
+use interface::claims::Claims;
 use interface::plant::Plant;
 use interface::tariff::Tariff;
 use lookahead::table::ValueTable;
@@ -89,21 +90,20 @@ fn state_refusal<P: Plant, T: Tariff>(
     tariff: &T,
     values: &[T::Amount],
     policy: &[u16],
-    low: T::Amount,
-    high: T::Amount,
+    claims: Claims<T::Amount>,
     state: usize,
 ) -> Option<Refusal>
     requires within { Within (P.model plant.now) (map T.Tariff.row values.now) }
     requires inside { state < length policy.now }
-    ensures { result ≡ state_fault (P.model plant.now) (T.scale tariff.now) (map T.Tariff.row values.now) policy.now (T.Tariff.row low) (T.Tariff.row high) state }
+    ensures { result ≡ state_fault (P.model plant.now) (T.scale tariff.now) (map T.Tariff.row values.now) policy.now (T.Tariff.row claims.low) (T.Tariff.row claims.high) state }
 {
     let Some(gain) = gain_within(plant, tariff, values, state, usize::from(policy[state])) else {
         return Some(Refusal::Infeasible(state));
     };
-    if !low_holds(plant, tariff, values, low, state) {
+    if !low_holds(plant, tariff, values, claims.low, state) {
         return Some(Refusal::LowBroken(state));
     }
-    if !tariff.at_most(gain, high) {
+    if !tariff.at_most(gain, claims.high) {
         return Some(Refusal::HighBroken(state));
     }
     None
@@ -115,14 +115,13 @@ fn first_broken<P: Plant, T: Tariff>(
     tariff: &T,
     values: &[T::Amount],
     policy: &[u16],
-    low: T::Amount,
-    high: T::Amount,
+    claims: Claims<T::Amount>,
 ) -> Option<Refusal>
     requires { Within (P.model plant.now) (map T.Tariff.row values.now) }
-    ensures { result ≡ first_fault (state_fault (P.model plant.now) (T.scale tariff.now) (map T.Tariff.row values.now) policy.now (T.Tariff.row low) (T.Tariff.row high)) (length policy.now) }
+    ensures { result ≡ first_fault (state_fault (P.model plant.now) (T.scale tariff.now) (map T.Tariff.row values.now) policy.now (T.Tariff.row claims.low) (T.Tariff.row claims.high)) (length policy.now) }
 {
     for state in 0..policy.len() {
-        let broken = state_refusal(plant, tariff, values, policy, low, high, state);
+        let broken = state_refusal(plant, tariff, values, policy, claims, state);
         if broken.is_some() {
             return broken;
         }
@@ -139,10 +138,10 @@ pub(crate) fn level<P: Plant, A>(plant: &P, values: &[A], policy: &[u16]) -> boo
 }
 
 // Whether both claims are within their reach.
-fn claims_near<T: Tariff>(tariff: &T, low: T::Amount, high: T::Amount) -> bool
-    ensures { result ≡ (nat_le (reach (T.Tariff.row low)) most_claim && nat_le (reach (T.Tariff.row high)) most_claim) }
+fn claims_near<T: Tariff>(tariff: &T, claims: Claims<T::Amount>) -> bool
+    ensures { result ≡ (nat_le (reach (T.Tariff.row claims.low)) most_claim && nat_le (reach (T.Tariff.row claims.high)) most_claim) }
 {
-    tariff.reach(low) <= MOST_CLAIM && tariff.reach(high) <= MOST_CLAIM
+    tariff.reach(claims.low) <= MOST_CLAIM && tariff.reach(claims.high) <= MOST_CLAIM
 }
 
 // The first test that fails.
@@ -151,37 +150,35 @@ fn first_refusal<P: Plant, T: Tariff>(
     tariff: &T,
     values: &[T::Amount],
     policy: &[u16],
-    low: T::Amount,
-    high: T::Amount,
+    claims: Claims<T::Amount>,
 ) -> Option<Refusal>
-    ensures { result ≡ refusal (P.model plant.now) (T.scale tariff.now) (map T.Tariff.row values.now) policy.now (T.Tariff.row low) (T.Tariff.row high) }
+    ensures { result ≡ refusal (P.model plant.now) (T.scale tariff.now) (map T.Tariff.row values.now) policy.now (T.Tariff.row claims.low) (T.Tariff.row claims.high) }
 {
     if !level(plant, values, policy) {
         return Some(Refusal::WrongLength);
     }
-    if !claims_near(tariff, low, high) {
+    if !claims_near(tariff, claims) {
         return Some(Refusal::BeyondReach(plant.states()));
     }
     let beyond = value_beyond(tariff, values);
     if beyond.is_some() {
         return beyond;
     }
-    first_broken(plant, tariff, values, policy, low, high)
+    first_broken(plant, tariff, values, policy, claims)
 }
 
-// Accepts exactly the sound certificates: a value table, a policy, low and high.
+// Accepts exactly the sound certificates: a value table, a policy, and the claims low and high.
 pub fn check<P: Plant, T: Tariff>(
     plant: &P,
     tariff: &T,
     values: &[T::Amount],
     policy: &[u16],
-    low: T::Amount,
-    high: T::Amount,
+    claims: Claims<T::Amount>,
 ) -> Result<Finding<T::Amount>, Refusal>
-    ensures verdict { Verdict T.Tariff.row (P.model plant.now) (T.scale tariff.now) (map T.Tariff.row values.now) policy.now low high result }
-    ensures exact { ExactlySound T.Tariff.row (P.model plant.now) (T.scale tariff.now) (map T.Tariff.row values.now) policy.now low high result }
+    ensures verdict { Verdict T.Tariff.row (P.model plant.now) (T.scale tariff.now) (map T.Tariff.row values.now) policy.now claims.low claims.high result }
+    ensures exact { ExactlySound T.Tariff.row (P.model plant.now) (T.scale tariff.now) (map T.Tariff.row values.now) policy.now claims.low claims.high result }
 {
-    if let Some(refusal) = first_refusal(plant, tariff, values, policy, low, high) {
+    if let Some(refusal) = first_refusal(plant, tariff, values, policy, claims) {
         return Err(refusal);
     }
     let Some(top) = finding::greatest(tariff, values) else {
@@ -191,8 +188,8 @@ pub fn check<P: Plant, T: Tariff>(
         return Err(Refusal::WrongLength);
     };
     Ok(Finding {
-        low,
-        high,
+        low: claims.low,
+        high: claims.high,
         top: top.amount,
         bottom: bottom.amount,
     })

@@ -11,18 +11,12 @@ ghost use Rattle.certificate.specs.Refusals.{first_fault};
 
 use crate::check::{gain_within, level, value_beyond};
 use crate::refusal::Refusal;
+use interface::claims::Claims;
 use interface::plant::Plant;
 use interface::tariff::Tariff;
 use lookahead::best;
 use lookahead::best::Choice;
 use lookahead::table::ValueTable;
-
-// What a certificate claims of all policies, and of its own.
-#[derive(Clone, Copy, PartialEq, Eq, Debug)]
-pub struct Claims<A> {
-    pub low: A,
-    pub high: A,
-}
 
 // The first state whose portfolio is not feasible.
 fn policy_refusal<P: Plant>(plant: &P, policy: &[u16]) -> Option<Refusal>

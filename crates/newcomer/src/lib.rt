@@ -26,14 +26,7 @@ mod tests {
         let claims = plan(&lamp, &ByBasket, 5, &mut values, &mut working, &mut policy)?;
         assert_eq!(rt; policy[0], 0);
         assert_eq!(rt; policy[1], 1);
-        let finding = check_certificate(
-            &lamp,
-            &ByBasket,
-            &values,
-            &policy,
-            claims.low,
-            claims.high,
-        )?;
+        let finding = check_certificate(&lamp, &ByBasket, &values, &policy, claims)?;
         assert_eq!(rt; finding.bottom.seconds, 0);
         assert_eq!(rt; finding.top.seconds, 60_000);
         assert_eq!(rt; finding.top.cents, 500_000);

@@ -4,7 +4,8 @@ ghost use Rattle.planner.specs.Answers.{Answer, Only};
 
 use crate::refusal::Refusal;
 use crate::sweep;
-use certificate::recipe::{Claims, recipe};
+use certificate::recipe::recipe;
+use interface::claims::Claims;
 use interface::plant::Plant;
 use interface::tariff::Tariff;
 

@@ -4,7 +4,7 @@ use Rattle.std.specs.List.{slice_get}
 use Rattle.interface.specs.Plants.{Model}
 use Rattle.interface.specs.Rows.{Row}
 use Rattle.interface.specs.Tariffs.{Scale}
-use Rattle.certificate.specs.declared.recipe.Claims.{Claims}
+use Rattle.interface.specs.declared.claims.Claims.{Claims}
 use Rattle.certificate.specs.Recipes.{Lowest, Highest}
 use Rattle.planner.specs.Sweeps.{Swept, Stuck, Chooses}
 use Rattle.plantext.specs.Lines.{Plan, plan_lines, plan_text}

@@ -4,7 +4,7 @@ ghost use Rattle.interface.specs.Limits.{most_states};
 ghost use Rattle.plantext.specs.Lines.{plan_text};
 ghost use Rattle.reply.specs.Plans.{plan_of, Written, Pushed};
 
-use certificate::recipe::Claims;
+use interface::claims::Claims;
 use interface::tariff::Tariff;
 use plantext::stage::LINES_BEFORE_ROWS;
 use plantext::writing::{LINE_ROOM, plan_line};

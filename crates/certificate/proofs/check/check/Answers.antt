@@ -15,7 +15,7 @@ returns-in-Some g c =
     record {
       verdict = is;
       exact = λ sound.
-          let none = sound_to (g.P.Plant.model c.args.plant.now) (g.met.P.Plant.lawful c.args.plant.now) (g.T.Tariff.scale c.args.tariff.now) (map row c.args.values.now) c.args.policy.now (row c.args.low) (row c.args.high) sound in
+          let none = sound_to (g.P.Plant.model c.args.plant.now) (g.met.P.Plant.lawful c.args.plant.now) (g.T.Tariff.scale c.args.tariff.now) (map row c.args.values.now) c.args.policy.now (row c.args.claims.low) (row c.args.claims.high) sound in
           let z : ◌≡◌ {A = ℕ} 0 1 = cc in omega arith;
     }
 
@@ -26,7 +26,7 @@ returns-in_default-greatest g c =
     let t = g.T.Tariff.scale c.args.tariff.now in
     let lawful = g.met.P.Plant.lawful c.args.plant.now in
     let xs = c.args.values.now in
-    let sound = sound_from m lawful t (map row xs) c.args.policy.now (row c.args.low) (row c.args.high) (sym c.first_refusal.ensures ∙ c.in_default.is) in
+    let sound = sound_from m lawful t (map row xs) c.args.policy.now (row c.args.claims.low) (row c.args.claims.high) (sym c.first_refusal.ensures ∙ c.in_default.is) in
     let some : 1 ≤ length xs = omega (arith, lawful.some_states, sound.values.long, length-map xs row) in
     let law = greatest_choice row t (g.met.T.Tariff.lawful c.args.tariff.now) (g.met.T.Tariff.fits c.args.tariff.now) xs c.greatest.result c.greatest.ensures in
     absurd (found row (dearer t) xs some (subst (λ o. FirstBest (dearer t) (slice_get (map row xs)) (length xs) (option_map (pick row) o)) c.in_default-greatest.is law))
@@ -38,7 +38,7 @@ returns-in_default-least g c =
     let t = g.T.Tariff.scale c.args.tariff.now in
     let lawful = g.met.P.Plant.lawful c.args.plant.now in
     let xs = c.args.values.now in
-    let sound = sound_from m lawful t (map row xs) c.args.policy.now (row c.args.low) (row c.args.high) (sym c.first_refusal.ensures ∙ c.in_default.is) in
+    let sound = sound_from m lawful t (map row xs) c.args.policy.now (row c.args.claims.low) (row c.args.claims.high) (sym c.first_refusal.ensures ∙ c.in_default.is) in
     let some : 1 ≤ length xs = omega (arith, lawful.some_states, sound.values.long, length-map xs row) in
     let law = least_choice row t (g.met.T.Tariff.lawful c.args.tariff.now) (g.met.T.Tariff.fits c.args.tariff.now) xs c.least.result c.least.ensures in
     absurd (found row (cheaper t) xs some (subst (λ o. FirstBest (cheaper t) (slice_get (map row xs)) (length xs) (option_map (pick row) o)) c.in_default-least.is law))
@@ -53,7 +53,7 @@ returns g c =
     let fits = g.met.T.Tariff.fits c.args.tariff.now in
     let xs = c.args.values.now in
     let none = sym c.first_refusal.ensures ∙ c.in_default.is in
-    let sound = sound_from m lawful t (map row xs) c.args.policy.now (row c.args.low) (row c.args.high) none in
+    let sound = sound_from m lawful t (map row xs) c.args.policy.now (row c.args.claims.low) (row c.args.claims.high) none in
     let long : length xs ≡ m.states = sym (length-map xs row) ∙ sound.values.long in
     let top = subst (λ o. FirstBest (dearer t) (slice_get (map row xs)) (length xs) (option_map (pick row) o)) c.in-Some-greatest.is (greatest_choice row t scaled fits xs c.greatest.result c.greatest.ensures) in
     let bottom = subst (λ o. FirstBest (cheaper t) (slice_get (map row xs)) (length xs) (option_map (pick row) o)) c.in-Some-least.is (least_choice row t scaled fits xs c.least.result c.least.ensures) in

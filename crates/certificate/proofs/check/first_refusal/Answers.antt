@@ -19,7 +19,7 @@ returns-then-not-claims_near g c =
     let same = sym c.level.ensures ∙ c.if-not-level.false in
     let far = sym c.claims_near.ensures ∙ c.if-not-claims_near.true in
     ap (λ n. Some (BeyondReach n)) c.states.ensures
-    ∙ sym (refused_claim row (g.P.Plant.model c.args.plant.now) c.args.values.now c.args.policy.now same (g.T.Tariff.scale c.args.tariff.now) (row c.args.low) (row c.args.high) far)
+    ∙ sym (refused_claim row (g.P.Plant.model c.args.plant.now) c.args.values.now c.args.policy.now same (g.T.Tariff.scale c.args.tariff.now) (row c.args.claims.low) (row c.args.claims.high) far)
 
 pub returns-then-is_some : goal.returns-then-is_some
 returns-then-is_some g c =
@@ -32,8 +32,8 @@ returns-then-is_some g c =
     let near = sym c.claims_near.ensures ∙ c.if-not-claims_near.false in
     let is = c.value_beyond-beyond.ensures in
     is
-    ∙ sym (refused_later row m xs ps same t (row c.args.low) (row c.args.high) near
-    ∙ or_first (first_fault (value_fault t (map row xs)) (length xs)) (first_fault (state_fault m t (map row xs) ps (row c.args.low) (row c.args.high)) (length ps))
+    ∙ sym (refused_later row m xs ps same t (row c.args.claims.low) (row c.args.claims.high) near
+    ∙ or_first (first_fault (value_fault t (map row xs)) (length xs)) (first_fault (state_fault m t (map row xs) ps (row c.args.claims.low) (row c.args.claims.high)) (length ps))
     (sym (ap is_some is) ∙ sym c.is_some.ensures ∙ c.if-is_some.true))
 
 pub first_broken-requires : goal.first_broken-requires
@@ -54,5 +54,5 @@ returns g c =
     let near = sym c.claims_near.ensures ∙ c.if-not-claims_near.false in
     let none = sym c.value_beyond-beyond.ensures ∙ none_of c.value_beyond-beyond.result (sym c.is_some.ensures ∙ c.if-is_some.false) in
     c.first_broken.ensures
-    ∙ sym (refused_later row m xs ps same t (row c.args.low) (row c.args.high) near
-    ∙ ap (λ z. or_else z (first_fault (state_fault m t (map row xs) ps (row c.args.low) (row c.args.high)) (length ps))) none)
+    ∙ sym (refused_later row m xs ps same t (row c.args.claims.low) (row c.args.claims.high) near
+    ∙ ap (λ z. or_else z (first_fault (state_fault m t (map row xs) ps (row c.args.claims.low) (row c.args.claims.high)) (length ps))) none)

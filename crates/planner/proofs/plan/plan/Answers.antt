@@ -2,7 +2,7 @@ use Rattle.std.proofs.Common.{ℕ, Ok, Err, Result}
 use Rattle.interface.specs.Plants.{Model}
 use Rattle.interface.specs.Rows.{Row}
 use Rattle.interface.specs.Tariffs.{Scale}
-use Rattle.certificate.specs.declared.recipe.Claims.{Claims}
+use Rattle.interface.specs.declared.claims.Claims.{Claims}
 use Rattle.planner.specs.declared.refusal.Refusal.{Refusal}
 use Rattle.planner.specs.Answers.{Tables, Answer, Only}
 use Rattle.planner.proofs.Unique.{swept_one}
