@@ -1,20 +1,20 @@
 -- The keys that have a name.
-use Rattle.std.proofs.Common.{◌≡◌, ℕ, ◌+◌, ◌<◌, Bool, true, false, cond, ◌⊎◌, List, [], ◌∷◌, length, get_or, drop, sym, refl, ap, ◌∙◌, inl, inr, ⊎_elim}
+use Rattle.std.proofs.Common.{◌≡◌, ℕ, Bool, true, false, cond, ◌⊎◌, List, [], ◌∷◌, Some, unwrap_or, sym, refl, ap, ◌∙◌, inl, inr, ⊎_elim}
+use Rattle.std.specs.List.{find}
 use Rattle.std.specs.Str.{bytes_eq}
 use Rattle.std.proofs.lemmas.Slice.Eq.{bytes_eq-Decides}
-use Rattle.std.proofs.lemmas.List.{at_drop_more}
-use Rattle.std.proofs.lemmas.Bool.{cond-true, cond-false}
 use Rattle.reading.specs.Keys.{name_of, named_keys, first_named, key_of, ReadsKey}
 use Rattle.reading.specs.declared.keys.Key.{Key}
 use Rattle.reading.specs.declared.keys.Key.TheVariants.{Kind, Parts, Threshold, Setup, Alarm, Part, Life, Hazard, Surplus, Dark, Arc, Inspect, Unit, Grades, Row, Planned, Forced, End, Tariff, Sweeps, Other}
 
-pub named_later : (name word : List ℕ) (keys : List Key) (i : ℕ) (d : Key) → i < length keys → word ≡ name_of (get_or keys i d) → false ≡ bytes_eq name word → first_named name (drop i keys) ≡ first_named name (drop (i + 1) keys)
-named_later name word keys i d inside is other =
-    at_drop_more (first_named name) keys i d inside ∙ cond-false _ _ _ (ap (bytes_eq name) (sym is) ∙ sym other)
-
-pub named_here : (name word : List ℕ) (keys : List Key) (i : ℕ) (d : Key) → i < length keys → word ≡ name_of (get_or keys i d) → true ≡ bytes_eq name word → first_named name (drop i keys) ≡ get_or keys i d
-named_here name word keys i d inside is same =
-    at_drop_more (first_named name) keys i d inside ∙ cond-true _ _ _ (ap (bytes_eq name) (sym is) ∙ sym same)
+-- the first of some keys with this name, as it is searched
+pub first_found : (name : List ℕ) (keys : List Key) → unwrap_or (find (λ k. bytes_eq name (name_of k)) keys) Other ≡ first_named name keys
+first_found name [] = refl
+first_found name (k ∷ ks) = step (bytes_eq name (name_of k)) (first_found name ks)
+  where
+    step : (t : Bool) → unwrap_or (find (λ k. bytes_eq name (name_of k)) ks) Other ≡ first_named name ks → unwrap_or (cond t (Some k) (find (λ k. bytes_eq name (name_of k)) ks)) Other ≡ cond t k (first_named name ks)
+    step true h = refl
+    step false h = h
 
 -- the key that was found has the name, or is none
 abbrev Found : List ℕ → Key → Type 0

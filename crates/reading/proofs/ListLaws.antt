@@ -1,11 +1,15 @@
 -- The numbers of a list, written from the last one back.
-use Rattle.std.proofs.Common.{◌≡◌, ℕ, ◌-◌, Bool, true, false, not, List, [], ◌∷◌, ◌++◌, length, take, drop, set, is_some, Some, None, Option, unwrap_or, sym, refl, ap, ◌∙◌, arith, Bor}
+use Rattle.std.proofs.Common.{◌≡◌, ℕ, suc, ◌+◌, ◌-◌, ◌<◌, ◌≤◌, Bool, true, false, cond, not, leb, List, [], ◌∷◌, ◌++◌, length, take, drop, set, replicate, is_some, Some, None, Option, unwrap_or, sym, refl, ap, ◌∙◌, arith, Bor}
+use native.Mathlib.Nat.{sub-zero}
 use borrow.Rule.Slice.PartMut.{put_mid}
-use Rattle.std.proofs.lemmas.List.{append-nil, take_rest, drop_all}
+use Rattle.std.proofs.lemmas.List.{append_assoc, append-nil, take_rest, take_all, take_more_set, drop_all, drop-replicate}
+use Rattle.std.proofs.lemmas.Iterator.Adapters.{option_map_id}
+use Rattle.std.specs.Bool.{then_some}
+use Rattle.std.specs.Option.{option_map}
 use Rattle.std.proofs.lemmas.Bool.{le-leb, cond-true, true≢false, not-true, not-false}
 use Rattle.lines.specs.Fields.{NextOf}
 use Rattle.lines.specs.Numeral.{numeral}
-use Rattle.reading.specs.Values.{at_least, in_front, numbers_of}
+use Rattle.reading.specs.Values.{at_least, in_front, numbers_of, list_of, padded, padded_list}
 
 -- a limit of 0 from below says nothing
 from_zero : (o : Option ℕ) → at_least 0 o ≡ o
@@ -75,3 +79,68 @@ numbers_over fs gs None r most [] z h q =
 numbers_over fs gs (Some f) r most [] z h q =
     let none : numbers_of fs most 0 ≡ None = ap (λ l. numbers_of l most 0) h in
     (not-true r (sym q) ∙ sym (ap is_some none), sym (ap (λ p. unwrap_or p []) none))
+
+-- some numbers that were read already, in front of those that are still to be read
+abbrev pub onto : List ℕ → Option (List ℕ) → Option (List ℕ)
+onto ns rest = option_map (λ ms. ns ++ ms) rest
+
+-- nothing is read yet
+pub none_yet : (fs gs : List (List ℕ)) (most count : ℕ) (out : List ℕ) → fs ≡ gs → numbers_of gs most count ≡ onto (take 0 out) (numbers_of fs most (count - 0))
+none_yet fs gs most count out e = ap (λ l. numbers_of l most count) (sym e) ∙ sym (option_map_id (numbers_of fs most count)) ∙ ap (λ n. onto (take 0 out) (numbers_of fs most n)) (sym (sub-zero count))
+
+module _ (read : Option (List ℕ)) (fs : List (List ℕ)) (most count i : ℕ) (out : List ℕ) (h : read ≡ onto (take i out) (numbers_of fs most (count - i))) where
+  -- a place is left, but no field
+  pub field_missing : i < count → fs ≡ [] → read ≡ None
+  field_missing inside e =
+      let more : count - i ≡ suc (count - (i + 1)) = omega arith in
+      h ∙ ap (λ l. onto (take i out) (numbers_of l most (count - i))) e ∙ ap (λ m. onto (take i out) (numbers_of [] most m)) more
+
+  module _ (f : List ℕ) (gs : List (List ℕ)) (e : fs ≡ f ∷ gs) where
+    -- the fields from the first one on, where a place is left
+    at_first : i < count → read ≡ onto (take i out) (in_front (at_least 0 (numeral f most)) (numbers_of gs most (count - (i + 1))))
+    at_first inside =
+        let more : count - i ≡ suc (count - (i + 1)) = omega arith in
+        h ∙ ap (λ l. onto (take i out) (numbers_of l most (count - i))) e ∙ ap (λ m. onto (take i out) (numbers_of (f ∷ gs) most m)) more ∙ ap (λ o. onto (take i out) (in_front o (numbers_of gs most (count - (i + 1))))) (sym (from_zero (numeral f most)))
+
+    pub field_unread : i < count → None ≡ at_least 0 (numeral f most) → read ≡ None
+    field_unread inside q = at_first inside ∙ ap (λ o. onto (take i out) (in_front o (numbers_of gs most (count - (i + 1))))) (sym q)
+
+    pub field_read : (n : ℕ) → i < count → length out ≡ count → Some n ≡ at_least 0 (numeral f most) → read ≡ onto (take (i + 1) (set out i n)) (numbers_of gs most (count - (i + 1)))
+    field_read n inside long q =
+        at_first inside ∙ ap (λ o. onto (take i out) (in_front o (numbers_of gs most (count - (i + 1))))) (sym q) ∙ moved (numbers_of gs most (count - (i + 1)))
+      where
+        moved : (o : Option (List ℕ)) → onto (take i out) (in_front (Some n) o) ≡ onto (take (i + 1) (set out i n)) o
+        moved None = refl
+        moved (Some ns) = ap Some (sym (append_assoc (take i out) (n ∷ []) ns) ∙ ap (λ l. l ++ ns) (sym (take_more_set out i n (omega arith))))
+
+    -- no place is left, but a field
+    pub field_over : count ≤ i → read ≡ None
+    field_over past =
+        let none : count - i ≡ 0 = omega arith in
+        h ∙ ap (λ l. onto (take i out) (numbers_of l most (count - i))) e ∙ ap (λ m. onto (take i out) (numbers_of (f ∷ gs) most m)) none
+
+  pub all_read : count ≤ i → length out ≡ count → fs ≡ [] → read ≡ Some out
+  all_read past long e =
+      let none : count - i ≡ 0 = omega arith in
+      let whole : take i out ≡ out = take_all _ _ (omega arith) in
+      h ∙ ap (λ l. onto (take i out) (numbers_of l most (count - i))) e ∙ ap (λ m. onto (take i out) (numbers_of [] most m)) none ∙ ap Some (append-nil (take i out) ∙ whole)
+
+-- what was read, with zeros behind it
+pub list_refused : (value : List ℕ) (places most count : ℕ) → list_of value most count ≡ None → None ≡ padded_list places value most count
+list_refused value places most count e = either (leb count places) ∙ ap (λ o. cond (leb count places) (option_map (padded places) o) None) (sym e)
+  where
+    either : (t : Bool) → ◌≡◌ {A = Option (List ℕ)} None (cond t None None)
+    either true = refl
+    either false = refl
+
+pub list_accepted : (value : List ℕ) (places most count : ℕ) (out : List ℕ) → count ≤ places → length out ≡ count → list_of value most count ≡ Some out → Some (out ++ drop count (replicate places 0)) ≡ padded_list places value most count
+list_accepted value places most count out room long e =
+    let zeros : drop count (replicate places 0) ≡ replicate (places - length out) 0 = drop-replicate count places 0 ∙ ap (λ n. replicate (places - n) 0) (sym long) in
+    ap (λ l. Some (out ++ l)) zeros ∙ sym (cond-true (leb count places) _ _ (le-leb count places room) ∙ ap (option_map (padded places)) e)
+
+-- all places are written: the list is accepted exactly where no field is left
+pub list_ended : (value : List ℕ) (places most count i : ℕ) (out : List ℕ) (fs gs : List (List ℕ)) (o : Option (Bor (List ℕ))) (b : Bool) → list_of value most count ≡ onto (take i out) (numbers_of fs most (count - i)) → count ≤ i → count ≤ places → length out ≡ count → NextOf fs o gs → is_some o ≡ not b → then_some b (out ++ drop count (replicate places 0)) ≡ padded_list places value most count
+list_ended value places most count i out fs gs None true h past room long next q = list_accepted value places most count out room long (all_read _ fs most count i out h past long next.0)
+list_ended value places most count i out fs gs (Some f) false h past room long next q = list_refused value places most count (field_over _ fs most count i out h f.now gs next past)
+list_ended value places most count i out fs gs None false h past room long next q = absurd (true≢false (sym q))
+list_ended value places most count i out fs gs (Some f) true h past room long next q = absurd (true≢false q)

@@ -45,3 +45,8 @@ key_of name = first_named name named_keys
 -- a key is read exactly from its name
 abbrev pub ReadsKey : List ℕ → Key → Type 0
 ReadsKey name r = (k : Key) → (k ≢ Other) → Iff (r ≡ k) (name ≡ name_of k)
+
+-- the key that a name gives
+pub record Names (name : List ℕ) (key : Key) : Type 0 where
+  pub value : key ≡ key_of name
+  pub law : ReadsKey name key

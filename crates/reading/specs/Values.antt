@@ -1,5 +1,6 @@
 -- The numbers in the value of a line.
-use Rattle.std.specs.Prelude.{◌≡◌, ℕ, zero, suc, ◌<◌, ◌≤◌, cond, List, [], ◌∷◌, map, length, Some, None, decimal, Option, nat_le}
+use Rattle.std.specs.Prelude.{◌≡◌, ℕ, zero, suc, ◌<◌, ◌≤◌, cond, List, [], ◌∷◌, ◌++◌, ◌-◌, map, length, replicate, Some, None, decimal, Option, nat_le}
+use Rattle.std.specs.Option.{option_map}
 use Rattle.std.specs.List.{AllByRecursion}
 use Rattle.lines.specs.Exactly.{Iff}
 use Rattle.lines.specs.Fields.{fields, joined}
@@ -30,6 +31,14 @@ numbers_of (f ∷ fs) most (suc n) = in_front (numeral f most) (numbers_of fs mo
 -- a value that is a list of exactly so many numbers
 abbrev pub list_of : List ℕ → ℕ → ℕ → Option (List ℕ)
 list_of value most count = numbers_of (fields value) most count
+
+-- numbers in a space of so many places, with zeros behind them
+abbrev pub padded : ℕ → List ℕ → List ℕ
+padded places ns = ns ++ replicate (places - length ns) 0
+
+-- a value that is a list of exactly so many numbers, in a space that has room for them
+abbrev pub padded_list : ℕ → List ℕ → ℕ → ℕ → Option (List ℕ)
+padded_list places value most count = cond (nat_le count places) (option_map (padded places) (list_of value most count)) None
 
 -- a number is read exactly from its decimal text, and exactly where it is within these bounds
 abbrev pub ReadsBetween : List ℕ → ℕ → ℕ → Option ℕ → Type 0

@@ -1,10 +1,8 @@
 // The keys of the lines.
 ghost use Rattle.std.specs.Prelude.{◌≡◌};
-ghost use Rattle.reading.specs.Keys.{name_of, key_of, ReadsKey};
+ghost use Rattle.reading.specs.Keys.{name_of, key_of, Names, ReadsKey};
 
-use crate::words::is_word;
-
-#[derive(Clone, Copy)]
+#[derive(Clone, Copy, PartialEq, Eq, Debug)]
 pub enum Key {
     Kind,
     Parts,
@@ -86,14 +84,22 @@ impl Key {
 }
 
 // The key with this name.
+impl From<&[u8]> for Key {
+    ghost from_gives = { λ name key. Names name.now key };
+
+    fn from(name: &[u8]) -> Key {
+        NAMED_KEYS
+            .iter()
+            .copied()
+            .find(|key| name == key.name())
+            .unwrap_or(Key::Other)
+    }
+}
+
+// The key with this name.
 pub fn key_of(name: &[u8]) -> Key
     ensures value { result ≡ key_of name.now }
     ensures law { ReadsKey name.now result }
 {
-    for key in NAMED_KEYS {
-        if is_word(name, key.name()) {
-            return key;
-        }
-    }
-    Key::Other
+    Key::from(name)
 }

@@ -2,7 +2,7 @@
 ghost use Rattle.std.specs.Prelude.{◌≡◌, length, is_some};
 ghost use Rattle.std.specs.Option.{unwrap_or};
 ghost use Rattle.lines.specs.Fields.{further};
-ghost use Rattle.reading.specs.Values.{number_between, numbers_of, list_of, ReadsBetween, ReadsList};
+ghost use Rattle.reading.specs.Values.{number_between, numbers_of, list_of, padded_list, ReadsBetween, ReadsList};
 
 use lines::cutting::Fields;
 use lines::numbers::number;
@@ -13,10 +13,25 @@ pub fn number_between(value: &[u8], least: u32, most: u32) -> Option<u32>
     ensures law { ReadsBetween value.now least most result }
 {
     let n = number(value, u64::from(most))? as u32;
-    if n < least {
+    (least <= n).then_some(n)
+}
+
+// Reads `value` as a list of exactly `count` numbers, each at most `most` and with a comma between each two. Zeros stand
+// behind them; absent where it is no such list, or one of more than N numbers.
+#[tactic(auto, using(crate::proofs::ValueLaws::list_law))]
+pub fn number_list<const N: usize>(value: &[u8], most: u32, count: usize) -> Option<[u32; N]>
+    ensures value { result ≡ padded_list N value.now most count }
+    ensures law { ReadsList value.now most count (list_of value.now most count) }
+{
+    if count > N {
         return None;
     }
-    Some(n)
+    let mut numbers = [0; N];
+    let mut fields = Fields::new(value);
+    for number in &mut numbers[..count] {
+        *number = number_between(fields.next_field()?, 0, most)?;
+    }
+    fields.next_field().is_none().then_some(numbers)
 }
 
 // Reads the fields that are left as numbers into `out`, one for each place, and nothing where one is missing, is left
