@@ -197,7 +197,7 @@ end_law (b ∷ bs) place = (
   (λ e. absurd (omega (arith, ap length e))),
 )
   where
-    goes : (t : Bool) (x : ReadRefusal) → eqb (length (b ∷ bs)) 0 ≡ t → cond t None (Some x) ≡ None → ⊥
+    goes : (t : Bool) (x : ReadRefusal) → eqb (length (b ∷ bs)) 0 ≡ t → cond t (Ok (tt {0})) (Err x) ≡ Ok tt → ⊥
     goes true x q e = omega (arith, eqb-true (length (b ∷ bs)) 0 q)
     goes false x q e = let z : ◌≡◌ {A = ℕ} 0 1 = cc in omega arith
 
@@ -208,5 +208,5 @@ tariff_read text rest place r e q = subst (λ a. ReadsTariff text a rest) (sym e
 pub sweeps_read : (text rest : List ℕ) (place : ℕ) (r : Result SweepsLine ReadRefusal) → r ≡ read_sweeps text place → rest ≡ rest_at text → ReadsSweeps text (counted r) rest
 sweeps_read text rest place r e q = subst (λ a. ReadsSweeps text (counted a) rest) (sym e) (subst (ReadsSweeps text (counted (read_sweeps text place))) (sym q) (sweeps_law text place))
 
-pub end_read : (text : List ℕ) (place : ℕ) (r : Option ReadRefusal) → r ≡ read_end text place → ReadsEnd text r
+pub end_read : (text : List ℕ) (place : ℕ) (r : Result (Unit {0}) ReadRefusal) → r ≡ read_end text place → ReadsEnd text r
 end_read text place r e = subst (ReadsEnd text) (sym e) (end_law text place)

@@ -2,32 +2,24 @@
 use Rattle.std.specs.Prelude.{ℕ, ◌+◌, cond, List, [], ◌∷◌, length, Some, None, Ok, Err, codes, Option, Result, ◌==◌}
 use Rattle.std.specs.Str.{bytes_eq}
 use Rattle.lines.specs.Fields.{fields}
-use Rattle.lines.specs.Line.{Said, pair, fault, line_at, bad_line}
+use Rattle.lines.specs.Line.{Said, pair, fault, line_at}
 use Rattle.lines.specs.Numeral.{numeral}
 use Rattle.reading.specs.declared.rules.ReadRefusal.{ReadRefusal}
 use Rattle.reading.specs.declared.rules.Rule.{Rule}
-use Rattle.reading.specs.declared.rules.Rule.TheVariants.{BadLine, Unexpected, OutOfRange}
+use Rattle.reading.specs.declared.rules.Rule.TheVariants.{Unexpected, OutOfRange}
+use Rattle.reading.specs.Rules.{fault_rule}
+use Rattle.planner.specs.Sweeps.{most_sweeps}
+use Rattle.tariffs.specs.Priced.{most_rate}
 use Rattle.request.specs.declared.kind.Kind.{Kind}
 use Rattle.request.specs.declared.kind.Kind.TheVariants.{Chain, Pair}
 use Rattle.request.specs.declared.sweeps.SweepsLine.{SweepsLine}
 use Rattle.request.specs.declared.tariff.TariffChoice.{TariffChoice}
 use Rattle.request.specs.declared.tariff.TariffChoice.TheVariants.{Priced, AirFirst}
 
--- the highest rate of the priced tariff, and the largest number of sweeps
-abbrev pub most_rate : ℕ
-most_rate = 1000
-
-abbrev pub most_sweeps : ℕ
-most_sweeps = 1000
-
--- the rule that a faulty line breaks
-abbrev pub rule_of : ℕ → Rule
-rule_of n = cond (n == bad_line) BadLine Unexpected
-
 -- the value of a line with the key that is due
 abbrev pub value_due : List ℕ → Said → Result (List ℕ) Rule
 value_due key (pair k v) = cond (bytes_eq k key) (Ok v) (Err Unexpected)
-value_due key (fault n) = Err (rule_of n)
+value_due key (fault n) = Err (fault_rule n)
 
 -- a rate, alone behind its word
 abbrev pub rate_of : Option ℕ → Result TariffChoice Rule
@@ -89,7 +81,7 @@ read_sweeps text place = on_line (place + 1) (at_line (place + 1) (after (value_
 -- a text that goes on where it should end
 abbrev pub goes_on : Said → Rule
 goes_on (pair k v) = Unexpected
-goes_on (fault n) = rule_of n
+goes_on (fault n) = fault_rule n
 
-abbrev pub read_end : List ℕ → ℕ → Option ReadRefusal
-read_end text place = cond (length text == 0) None (Some (record { rule = goes_on (line_at text); line = place + 1 }))
+abbrev pub read_end : List ℕ → ℕ → Result (Unit {0}) ReadRefusal
+read_end text place = cond (length text == 0) (Ok tt) (Err (record { rule = goes_on (line_at text); line = place + 1 }))

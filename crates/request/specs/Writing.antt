@@ -1,5 +1,5 @@
 -- The lines of a request as they are written, and what is read of them.
-use Rattle.std.specs.Prelude.{◌≡◌, ℕ, ◌≤◌, List, [], ◌∷◌, ◌++◌, None, Ok, Err, codes, decimal, Option, Result}
+use Rattle.std.specs.Prelude.{◌≡◌, ℕ, ◌≤◌, List, [], ◌∷◌, ◌++◌, Ok, Err, codes, decimal, Result}
 use Rattle.lines.specs.Exactly.{Iff}
 use Rattle.lines.specs.Fields.{joined}
 use Rattle.planner.specs.Sweeps.{most_sweeps}
@@ -48,5 +48,5 @@ abbrev pub ReadsSweeps : List ℕ → Result ℕ ReadRefusal → List ℕ → Ty
 ReadsSweeps text answer rest = (n : ℕ) (after : List ℕ) → Iff ((answer ≡ Ok n) × (rest ≡ after)) ((text ≡ number_line Sweeps n ++ after) × (n ≤ most_sweeps))
 
 -- a text has ended exactly when nothing is left of it
-abbrev pub ReadsEnd : List ℕ → Option ReadRefusal → Type 0
-ReadsEnd text answer = Iff (answer ≡ None) (text ≡ [])
+abbrev pub ReadsEnd : List ℕ → Result (Unit {0}) ReadRefusal → Type 0
+ReadsEnd text answer = Iff (answer ≡ Ok tt) (text ≡ [])

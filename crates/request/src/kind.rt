@@ -4,9 +4,9 @@ ghost use Rattle.request.specs.Requests.{kind_named, read_kind};
 ghost use Rattle.request.specs.Writing.{ReadsKind};
 
 use crate::due::value_due;
-use lines::reading::Lines;
+use lines::reading::{Lines, Read};
+use reading::keys::Key;
 use reading::rules::{ReadRefusal, Rule};
-use reading::words::is_word;
 
 // The kinds that a text can name.
 #[derive(Clone, Copy, PartialEq, Eq, Debug)]
@@ -15,30 +15,18 @@ pub enum Kind {
     Pair,
 }
 
-fn kind_named(word: &[u8]) -> Result<Kind, Rule>
-    ensures { result ≡ kind_named word.now }
-{
-    if is_word(word, b"chain") {
-        return Ok(Kind::Chain);
-    }
-    if is_word(word, b"pair") {
-        return Ok(Kind::Pair);
-    }
-    Err(Rule::Unexpected)
-}
+// The kind with this name.
+impl TryFrom<&[u8]> for Kind {
+    type Error = Rule;
 
-fn kind_line(text: &[u8]) -> Result<Kind, ReadRefusal>
-    ensures { result ≡ read_kind text.now }
-{
-    let read = Lines::new(text).next_line();
-    let line = read.place;
-    let word = match value_due(read.line, b"kind") {
-        Ok(word) => word,
-        Err(rule) => return Err(ReadRefusal { rule, line }),
-    };
-    match kind_named(word) {
-        Ok(kind) => Ok(kind),
-        Err(rule) => Err(ReadRefusal { rule, line }),
+    ghost try_from_gives = { λ word r. r ≡ kind_named word.now };
+
+    fn try_from(word: &[u8]) -> Result<Kind, Rule> {
+        match word {
+            b"chain" => Ok(Kind::Chain),
+            b"pair" => Ok(Kind::Pair),
+            _ => Err(Rule::Unexpected),
+        }
     }
 }
 
@@ -47,5 +35,8 @@ pub fn kind_of(text: &[u8]) -> Result<Kind, ReadRefusal>
     ensures value { result ≡ read_kind text.now }
     ensures law { ReadsKind text.now result }
 {
-    kind_line(text)
+    let Read { line, place } = Lines::new(text).next_line();
+    value_due(line, Key::Kind)
+        .and_then(Kind::try_from)
+        .map_err(|rule| ReadRefusal { rule, line: place })
 }

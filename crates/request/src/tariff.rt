@@ -7,13 +7,11 @@ ghost use Rattle.lines.specs.Fields.{further};
 
 use crate::due::value_due;
 use lines::cutting::Fields;
-use lines::numbers::number;
-use lines::reading::Lines;
+use lines::reading::{Lines, Read};
+use reading::keys::Key;
 use reading::rules::{ReadRefusal, Rule};
-use reading::words::is_word;
-
-// The highest rate of the priced tariff.
-pub const MOST_RATE: u64 = 1000;
+use reading::values::number_between;
+use tariffs::priced::MOST_RATE;
 
 // The tariff that a request names.
 #[derive(Clone, Copy, PartialEq, Eq, Debug)]
@@ -22,60 +20,41 @@ pub enum TariffChoice {
     AirFirst,
 }
 
+// A rate, alone behind its word.
 fn priced_by(mut fields: Fields) -> Result<TariffChoice, Rule>
     ensures { result ≡ priced_by (further fields.entry.rest) }
 {
-    let Some(rate) = fields.next_field() else {
-        return Err(Rule::OutOfRange);
-    };
+    let rate = fields.next_field().ok_or(Rule::OutOfRange)?;
     if fields.next_field().is_some() {
         return Err(Rule::OutOfRange);
     }
-    match number(rate, MOST_RATE) {
-        Some(rate) => Ok(TariffChoice::Priced(rate as u32)),
-        None => Err(Rule::OutOfRange),
-    }
+    number_between(rate, 0, MOST_RATE)
+        .map(TariffChoice::Priced)
+        .ok_or(Rule::OutOfRange)
 }
 
 fn air_first_by(mut fields: Fields) -> Result<TariffChoice, Rule>
     ensures { result ≡ air_first_by (further fields.entry.rest) }
 {
-    if fields.next_field().is_some() {
-        return Err(Rule::OutOfRange);
+    match fields.next_field() {
+        None => Ok(TariffChoice::AirFirst),
+        Some(_) => Err(Rule::OutOfRange),
     }
-    Ok(TariffChoice::AirFirst)
 }
 
-fn tariff_of(value: &[u8]) -> Result<TariffChoice, Rule>
-    ensures { result ≡ tariff_of value.now }
-{
-    let mut fields = Fields::new(value);
-    let Some(word) = fields.next_field() else {
-        return Err(Rule::Unexpected);
-    };
-    if is_word(word, b"priced") {
-        return priced_by(fields);
-    }
-    if is_word(word, b"airfirst") {
-        return air_first_by(fields);
-    }
-    Err(Rule::Unexpected)
-}
+// The word of a tariff, and what suits it.
+impl TryFrom<&[u8]> for TariffChoice {
+    type Error = Rule;
 
-fn tariff_line(lines: &mut Lines) -> Result<TariffChoice, ReadRefusal>
-    ensures value { result ≡ read_tariff lines.old.rest.now lines.old.place }
-    ensures rest { lines.new.rest.now ≡ rest_at lines.old.rest.now }
-    ensures count { lines.new.place ≡ lines.old.place + taken (line_at lines.old.rest.now) }
-{
-    let read = lines.next_line();
-    let line = read.place;
-    let value = match value_due(read.line, b"tariff") {
-        Ok(value) => value,
-        Err(rule) => return Err(ReadRefusal { rule, line }),
-    };
-    match tariff_of(value) {
-        Ok(tariff) => Ok(tariff),
-        Err(rule) => Err(ReadRefusal { rule, line }),
+    ghost try_from_gives = { λ value r. r ≡ tariff_of value.now };
+
+    fn try_from(value: &[u8]) -> Result<TariffChoice, Rule> {
+        let mut fields = Fields::new(value);
+        match fields.next_field() {
+            Some(b"priced") => priced_by(fields),
+            Some(b"airfirst") => air_first_by(fields),
+            _ => Err(Rule::Unexpected),
+        }
     }
 }
 
@@ -86,5 +65,8 @@ pub fn read_tariff(lines: &mut Lines) -> Result<TariffChoice, ReadRefusal>
     ensures count { lines.new.place ≡ lines.old.place + taken (line_at lines.old.rest.now) }
     ensures law { ReadsTariff lines.old.rest.now result lines.new.rest.now }
 {
-    tariff_line(lines)
+    let Read { line, place } = lines.next_line();
+    value_due(line, Key::Tariff)
+        .and_then(TariffChoice::try_from)
+        .map_err(|rule| ReadRefusal { rule, line: place })
 }
