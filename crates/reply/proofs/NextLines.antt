@@ -1,5 +1,5 @@
 -- From line to line behind the plant of a request.
-use Rattle.std.proofs.Common.{◌≡◌, ℕ, ◌+◌, List, ◌++◌, IfOk, None, Ok, Err, codes, Option, Result, refl, ap, ◌∙◌, subst, arith, MatchResult}
+use Rattle.std.proofs.Common.{◌≡◌, ℕ, ◌+◌, List, ◌++◌, IfOk, Ok, Err, codes, Result, refl, ap, ◌∙◌, subst, arith, MatchResult}
 use Rattle.std.proofs.lemmas.List.{append-nil}
 use Rattle.interface.specs.Plants.{Model}
 use Rattle.lines.specs.Line.{Said, pair, fault, line_at, rest_at, taken}
@@ -36,7 +36,7 @@ module _ (m : Model) (text : List ℕ) (place : ℕ) (c : TariffChoice) (read : 
       subst (λ a. AtTariff m (rest_at text) (place + 1) a reply) read here
 
   -- and then the end
-  pub at_end : (s : SweepsLine) → Ok s ≡ read_sweeps rest line → (rest' : List ℕ) (line' : ℕ) → rest' ≡ rest_at rest → line' ≡ line + taken (line_at rest) → (q : Option ReadRefusal) → q ≡ read_end rest' line' → AtEnd m c s q reply → BehindPlant m text place reply
+  pub at_end : (s : SweepsLine) → Ok s ≡ read_sweeps rest line → (rest' : List ℕ) (line' : ℕ) → rest' ≡ rest_at rest → line' ≡ line + taken (line_at rest) → (q : Result (Unit {0}) ReadRefusal) → q ≡ read_end rest' line' → AtEnd m c s q reply → BehindPlant m text place reply
   at_end s swept rest' line' left' count' q e h =
       let k = placed (line + 1) s (at_line (line + 1) (after (value_due (codes "sweeps") (line_at rest)) sweeps_of)) swept in
       let next' : line' ≡ line + 1 = count' ∙ ap (λ k. line + k) (used (codes "sweeps") sweeps_of (line + 1) k.0 (line_at rest) k.1) in
@@ -48,7 +48,7 @@ pub at_last : {Y : Type 0} (q : Result Reply Y) {P Q : Reply → Type 0} {W : Ty
 at_last (Ok r) f w h = f r h
 at_last (Err y) f w h = w
 
-pub tail : (text rest rest' : List ℕ) (c : TariffChoice) (s : SweepsLine) → ReadsTariff text (Ok c) rest → ReadsSweeps rest (Ok s.count) rest' → ReadsEnd rest' None → Tail text
+pub tail : (text rest rest' : List ℕ) (c : TariffChoice) (s : SweepsLine) → ReadsTariff text (Ok c) rest → ReadsSweeps rest (Ok s.count) rest' → ReadsEnd rest' (Ok tt) → Tail text
 tail text rest rest' c s first second last =
     let t = (first c rest).0 (refl, refl) in
     let n = (second s.count rest').0 (refl, refl) in

@@ -1,5 +1,5 @@
 -- Exactly the requests are answered by their plan, or by the refusal of their sweeps.
-use Rattle.std.proofs.Common.{◌≡◌, ℕ, ◌+◌, ◌≤◌, ◌⊎◌, List, [], ◌++◌, take, Some, None, Ok, Err, codes, Option, Result, sym, refl, ap, ◌∙◌, subst, inl, inr, arith, MatchResult}
+use Rattle.std.proofs.Common.{◌≡◌, ℕ, ◌+◌, ◌≤◌, ◌⊎◌, List, [], ◌++◌, take, Ok, Err, codes, Result, sym, refl, ap, ◌∙◌, subst, inl, inr, arith, MatchResult}
 use Rattle.std.proofs.lemmas.List.{append_assoc, append-nil}
 use Rattle.interface.specs.Plants.{Model}
 use Rattle.lines.specs.Line.{rest_at}
@@ -48,10 +48,10 @@ Either m text r = ((e : ReadRefusal) × BrokenBy e r) ⊎ Sound m text r
 module _ (m : Model) (text : List ℕ) (place : ℕ) (r : Reply) where
   module _ (c : TariffChoice) (tariff : Ok c ≡ read_tariff text place) where
     module _ (s : SweepsLine) (sweeps : Ok s ≡ read_sweeps (rest_at text) (place + 1)) where
-      from_end : (o : Option ReadRefusal) → o ≡ read_end (rest_at (rest_at text)) (place + 1 + 1) → AtEnd m c s o r → Either m text r
-      from_end (Some e) q h = inl (e, h)
-      from_end None q h =
-          let nothing = (end_read (rest_at (rest_at text)) (place + 1 + 1) None q).0 refl in
+      from_end : (o : Result (Unit {0}) ReadRefusal) → o ≡ read_end (rest_at (rest_at text)) (place + 1 + 1) → AtEnd m c s o r → Either m text r
+      from_end (Err e) q h = inl (e, h)
+      from_end (Ok u) q h =
+          let nothing = (end_read (rest_at (rest_at text)) (place + 1 + 1) (Ok u) q).0 refl in
           let t = (tariff_read text (rest_at text) place (Ok c) tariff refl c (rest_at text)).0 (refl, refl) in
           let n = (sweeps_read (rest_at text) (rest_at (rest_at text)) (place + 1) (Ok s) sweeps refl s.count []).0 (refl, nothing) in
           inr (record {
@@ -85,7 +85,7 @@ planned m text place r c n whole rate few h =
     let t = (tariff_read text (rest_at text) place (read_tariff text place) refl refl c (number_line Sweeps n)).1 (whole, rate) in
     let k = (sweeps_read (rest_at text) (rest_at (rest_at text)) (place + 1) (read_sweeps (rest_at text) (place + 1)) refl refl n []).1 (t.1 ∙ sym (append-nil (number_line Sweeps n)), few) in
     let s = line_of_count (read_sweeps (rest_at text) (place + 1)) n k.0 in
-    let e : read_end (rest_at (rest_at text)) (place + 1 + 1) ≡ None = (end_read (rest_at (rest_at text)) (place + 1 + 1) (read_end (rest_at (rest_at text)) (place + 1 + 1)) refl).1 k.1 in
+    let e : read_end (rest_at (rest_at text)) (place + 1 + 1) ≡ Ok tt = (end_read (rest_at (rest_at text)) (place + 1 + 1) (read_end (rest_at (rest_at text)) (place + 1 + 1)) refl).1 k.1 in
     let at_sweeps : AtSweeps m c (rest_at (rest_at text)) (place + 1 + 1) (read_sweeps (rest_at text) (place + 1)) r = subst (λ q. AtTariff m (rest_at text) (place + 1) q r) t.0 h in
     let at_end : AtEnd m c s.0 (read_end (rest_at (rest_at text)) (place + 1 + 1)) r = subst (λ q. AtSweeps m c (rest_at (rest_at text)) (place + 1 + 1) q r) s.1 at_sweeps in
     (s.0, subst (λ o. AtEnd m c s.0 o r) e at_end)

@@ -1,5 +1,5 @@
 -- What a request is answered with, from its kind to its end.
-use Rattle.std.specs.Prelude.{◌≡◌, ℕ, ◌+◌, List, Some, None, Ok, Err, vec_items, Option, Result}
+use Rattle.std.specs.Prelude.{◌≡◌, ℕ, ◌+◌, List, Ok, Err, vec_items, Result}
 use Rattle.interface.specs.Plants.{Model}
 use Rattle.interface.specs.Tariffs.{Scale}
 use Rattle.tariffs.specs.AirFirst.{air_first_scale}
@@ -46,9 +46,9 @@ abbrev pub BrokenBy : ReadRefusal → Reply → Type 0
 BrokenBy e r = r ≡ Refused (Broken e)
 
 -- after the sweeps line nothing may follow
-abbrev pub AtEnd : Model → TariffChoice → SweepsLine → Option ReadRefusal → Reply → Type 0
-AtEnd m c s None r = PlansAs m (scale_of c) s r
-AtEnd m c s (Some e) r = BrokenBy e r
+abbrev pub AtEnd : Model → TariffChoice → SweepsLine → Result (Unit {0}) ReadRefusal → Reply → Type 0
+AtEnd m c s (Ok u) r = PlansAs m (scale_of c) s r
+AtEnd m c s (Err e) r = BrokenBy e r
 
 -- the sweeps line, and the text behind it, of which so many lines were read
 abbrev pub AtSweeps : Model → TariffChoice → List ℕ → ℕ → Result SweepsLine ReadRefusal → Reply → Type 0

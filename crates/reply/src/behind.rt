@@ -52,7 +52,7 @@ pub(crate) fn reply_behind<P: Plant>(
         Ok(sweeps) => sweeps,
         Err(refusal) => return Ok(Reply::Refused(Refusal::Broken(refusal))),
     };
-    if let Some(refusal) = read_end(lines) {
+    if let Err(refusal) = read_end(lines) {
         return Ok(Reply::Refused(Refusal::Broken(refusal)));
     }
     reply_under(heap, plant, tariff, sweeps)
