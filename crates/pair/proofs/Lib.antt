@@ -1,3 +1,4 @@
 pub mod Instance
+pub mod Rows
 pub mod Sums
 pub mod Survival

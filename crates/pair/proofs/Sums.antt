@@ -1,10 +1,7 @@
 -- Sums over grades.
-use Rattle.std.proofs.Common.{◌≡◌, ℕ, zero, suc, ◌+◌, ◌-◌, ◌≤◌, ap, ⊎_elim, add-one, arith}
+use Rattle.std.proofs.Common.{◌≡◌, ℕ, zero, suc, ◌+◌, ◌-◌, ◌≤◌, ap, ⊎_elim, arith}
 use Rattle.std.proofs.lemmas.Bool.{cases_lt}
 use Rattle.pair.specs.Units.{over_grades}
-
-pub one_more : (f : ℕ → ℕ) (n : ℕ) → over_grades f (n + 1) ≡ over_grades f n + f (n + 1)
-one_more f n = ap (over_grades f) (add-one n)
 
 pub last_grade : (f : ℕ → ℕ) (n : ℕ) → 1 ≤ n → over_grades f n ≡ over_grades f (n - 1) + f n
 last_grade f zero h = absurd (omega arith)

@@ -1,5 +1,5 @@
 -- The outcomes of a pair, as a list.
-use Rattle.std.specs.Prelude.{◌≡◌, ℕ, zero, suc, ◌+◌, ◌*◌, ◌/◌, ◌%◌, ◌<◌, ◌≤◌, Bool, true, false, cond, ltb, List, [], ◌∷◌, map, length, Some, None, sum_by, Option, nat_lt, refl}
+use Rattle.std.specs.Prelude.{◌≡◌, ℕ, zero, suc, ◌+◌, ◌*◌, ◌/◌, ◌%◌, ◌<◌, ◌≤◌, Bool, true, false, cond, ltb, List, [], ◌∷◌, map, length, Some, None, sum_by, nat_lt, refl}
 use Rattle.std.proofs.Common.{ap, sym, ◌∙◌, ⊎_elim, add_assoc, add-suc, add-zero, zero-add, zero-mul, mul-zero, mul-suc, mul-add, add-mul, mod-eq_of_lt, add-one, arith}
 use Rattle.std.proofs.Math.Nat.{mul-add-mod_self_left, mul-add-div, div-eq_of_lt}
 use Rattle.std.specs.List.{slice_get, range_with_len}
@@ -11,9 +11,9 @@ use Rattle.interface.specs.declared.plant.Outcome.{Outcome}
 use Rattle.interface.specs.Plants.{outcomes_of, weights, Inside}
 use Rattle.pair.specs.declared.numbers.PairNumbers.{PairNumbers}
 use Rattle.pair.specs.declared.states.Grades.{Grades}
-use Rattle.pair.specs.Pairs.{moved_by, pair_feasible, rows_of, outcome_by, pair_model}
-use Rattle.pair.specs.States.{all_states}
-use Rattle.pair.specs.Units.{over_grades}
+use Rattle.pair.specs.Pairs.{moved_by, pair_feasible, outcome_by, pair_model}
+use Rattle.pair.specs.States.{all_states, grades_in, grades_of}
+use Rattle.pair.specs.Units.{over_grades, hundredths}
 
 -- element k of a list made from a function
 pub nth_counting : {X : Type 0} (f : ℕ → X) (n k : ℕ) → slice_get (map f (range_with_len 0 n)) k ≡ cond (nat_lt k n) (Some (f k)) None
@@ -88,13 +88,20 @@ pub inside_counting : (f : ℕ → Outcome) (a n m : ℕ) → ((k : ℕ) → (f 
 inside_counting f a zero m leads most = tt
 inside_counting f a (suc n) m leads most = (omega (arith, leads a), inside_counting f (a + 1) n m leads (omega arith))
 
-some_only : {X : Type 0} (b : Bool) (x y : X) → Some x ≡ cond b (Some y) None → (b ≡ true) × (x ≡ y)
-some_only true x y e = (refl, cc)
-some_only false x y e = let z : ◌≡◌ {A = ℕ} 0 1 = cc in absurd (omega arith)
+-- outcome k of a portfolio that the state allows is absent where there is no state k
+pub no_outcome : (n : PairNumbers) (s x k : ℕ) → pair_feasible n s x ≡ true → None ≡ grades_of n k → None ≡ slice_get (outcomes_of (pair_model n) s x) k
+no_outcome n s x k test none = rw test (past (nat_lt k (all_states n)) none ∙ sym (nth_counting (outcome_by n (moved_by n s x)) (all_states n) k))
+  where
+    past : (b : Bool) → None ≡ cond b (Some (grades_in n k)) None → None ≡ cond b (Some (outcome_by n (moved_by n s x) k)) None
+    past true e = absurd (let z : ◌≡◌ {A = ℕ} 0 1 = cc in omega arith)
+    past false e = refl
 
--- what the code answers is in the list
-pub outcome_listed : (n : PairNumbers) (s x k : ℕ) (g : Grades) (r : Option Outcome) → Some g ≡ rows_of n s x → r ≡ cond (nat_lt k (all_states n)) (Some (outcome_by n g k)) None → r ≡ slice_get (outcomes_of (pair_model n) s x) k
-outcome_listed n s x k g r moved is =
-    let only = some_only (pair_feasible n s x) g (moved_by n s x) moved in
-    let test : pair_feasible n s x ≡ true = only.0 in
-    rw test (is ∙ ap (λ h. cond (nat_lt k (all_states n)) (Some (outcome_by n h k)) None) only.1 ∙ sym (nth_counting (outcome_by n (moved_by n s x)) (all_states n) k))
+-- and has the weight of the rows by which the units move otherwise
+pub some_outcome : (n : PairNumbers) (s x k w : ℕ) (g : Grades) → pair_feasible n s x ≡ true → Some g ≡ grades_of n k → w ≡ hundredths n.one (moved_by n s x).one g.one * hundredths n.two (moved_by n s x).two g.two → Some (record { next = k; weight = w }) ≡ slice_get (outcomes_of (pair_model n) s x) k
+some_outcome n s x k w g test some weighs = rw test (inside (nat_lt k (all_states n)) some ∙ sym (nth_counting (outcome_by n (moved_by n s x)) (all_states n) k))
+  where
+    inside : (b : Bool) → Some g ≡ cond b (Some (grades_in n k)) None → Some (record { next = k; weight = w }) ≡ cond b (Some (outcome_by n (moved_by n s x) k)) None
+    inside true e =
+        let same : g ≡ grades_in n k = cc in
+        ap (λ v. Some (record { next = k; weight = v })) (weighs ∙ ap (λ h. hundredths n.one (moved_by n s x).one h.one * hundredths n.two (moved_by n s x).two h.two) same)
+    inside false e = absurd (let z : ◌≡◌ {A = ℕ} 0 1 = cc in omega arith)

@@ -1,16 +1,18 @@
 // The pair as a plant.
-ghost use Rattle.std.specs.Prelude.{◌≡◌, ◌<◌, ◌≤◌, IfSome, if◌then◌else◌, Some, None, MatchResult, nat_lt};
+ghost use Rattle.std.specs.Prelude.{◌≡◌, IfSome, MatchResult, is_some};
 ghost use Rattle.pair.specs.Laws.{PairLaws, SomePair};
-ghost use Rattle.pair.specs.Pairs.{LawfulTerms, LawfulNumbers, Renewable, ThresholdFigure, BothWorking, rows_of, seconds_at, cents_at, survival_by, outcome_by, pair_model};
+ghost use Rattle.pair.specs.Pairs.{LawfulTerms, LawfulNumbers, Renewable, ThresholdFigure, HasGrades, moved_by, pair_feasible, seconds_at, cents_at, pair_model};
+ghost use Rattle.pair.specs.Portfolios.{portfolio_number};
 ghost use Rattle.pair.specs.Refusals.{Refused};
-ghost use Rattle.pair.specs.States.{all_states, state_of, grades_of, WithoutLoss};
+ghost use Rattle.pair.specs.States.{all_states, state_of, grades_in, grades_of, WithoutLoss};
 ghost use Rattle.pair.specs.Units.{LawfulGrades, NoReturn, LawfulCharges};
 ghost use Rattle.pair.specs.LawsLemmas.{pair_lawful};
 
 use crate::numbers::PairNumbers;
-use crate::portfolios::{NOTHING, PORTFOLIOS, renewals_of};
+use crate::portfolios::{PORTFOLIOS, Portfolio};
 use crate::refusal::PairRefusal;
 use crate::states::Grades;
+use crate::units::Rows;
 use interface::plant::{Bill, Outcome, Plant};
 
 // Two units whose numbers are in range and which may both be renewed in every state. Each question is answered from
@@ -26,6 +28,14 @@ pub struct Pair {
     ghost two_no_return: { NoReturn numbers.two },
     ghost two_charges: { LawfulCharges numbers.two },
     ghost renewable: { Renewable numbers },
+}
+
+// A portfolio in a state that allows it: the grades before it, and the rows by which the units move.
+#[derive(Clone, Copy)]
+struct Window<'a> {
+    grades: Grades,
+    portfolio: Portfolio,
+    rows: Rows<'a>,
 }
 
 impl Pair {
@@ -54,42 +64,61 @@ impl Pair {
     }
 
     // The number of the state with these grades, absent exactly when a unit has no such grade.
+    #[tactic(auto, using(crate::specs::RoundTrips::without_loss))]
     pub fn state_number(&self, grades: Grades) -> Option<usize>
         ensures value { result ≡ state_of self.now.numbers grades }
         ensures kept { WithoutLoss self.now.numbers }
     {
-        self.numbers.state_of(grades)
+        let PairNumbers { one, two, .. } = &self.numbers;
+        if !one.has_grade(grades.one) || !two.has_grade(grades.two) {
+            return None;
+        }
+        Some(grades.one - 1 + one.grades * (grades.two - 1))
     }
 
     // The grades of both units in a state, absent from the number of states on.
+    #[tactic(auto, using(crate::specs::RoundTrips::without_loss))]
     pub fn grades_of(&self, state: usize) -> Option<Grades>
         ensures value { result ≡ grades_of self.now.numbers state }
+        ensures had { IfSome result (HasGrades self.now.numbers) }
         ensures kept { WithoutLoss self.now.numbers }
     {
-        self.numbers.grades_of(state)
+        if state >= self.states() {
+            return None;
+        }
+        let width = self.numbers.one.grades;
+        Some(Grades {
+            one: state % width + 1,
+            two: state / width + 1,
+        })
     }
 
-    // The grades by whose rows the units move, absent exactly where the state does not allow the portfolio.
-    fn rows(&self, state: usize, portfolio: usize) -> Option<Grades>
-        ensures value { result ≡ rows_of self.now.numbers state portfolio }
-        ensures working { IfSome result (BothWorking self.now.numbers) }
+    // Absent exactly where the state does not allow the portfolio.
+    fn window(&self, state: usize, portfolio: usize) -> Option<Window<'_>>
+        ensures present { is_some result ≡ pair_feasible self.now.numbers state portfolio }
+        ensures asked { IfSome result (λ w. (w.grades ≡ grades_in self.now.numbers state) × (portfolio_number w.portfolio ≡ portfolio)) }
+        ensures units { IfSome result (λ w. (w.rows.one.unit.now ≡ self.now.numbers.one) × (w.rows.two.unit.now ≡ self.now.numbers.two)) }
+        ensures rows { IfSome result (λ w. (w.rows.one.grade ≡ (moved_by self.now.numbers state portfolio).one) × (w.rows.two.grade ≡ (moved_by self.now.numbers state portfolio).two)) }
     {
-        if state >= self.numbers.all_states() || portfolio >= PORTFOLIOS {
+        let grades = self.grades_of(state)?;
+        let portfolio = Portfolio::try_from(portfolio).ok()?;
+        let one = self
+            .numbers
+            .one
+            .row_from(portfolio.renews_one(), grades.one)?;
+        let two = self
+            .numbers
+            .two
+            .row_from(portfolio.renews_two(), grades.two)?;
+        let rows = Rows { one, two };
+        if rows.survival() < self.numbers.threshold {
             return None;
         }
-        let grades = self.numbers.grades_in(state);
-        let renewed = renewals_of(portfolio);
-        let Some(one) = self.numbers.one.row_grade(renewed.one, grades.one) else {
-            return None;
-        };
-        let Some(two) = self.numbers.two.row_grade(renewed.two, grades.two) else {
-            return None;
-        };
-        let rows = Grades { one, two };
-        if self.survival(rows) < self.numbers.threshold {
-            return None;
-        }
-        Some(rows)
+        Some(Window {
+            grades,
+            portfolio,
+            rows,
+        })
     }
 
     fn seconds(&self, grades: Grades) -> u32
@@ -98,42 +127,23 @@ impl Pair {
         self.numbers.one.dark_seconds(grades.one) + self.numbers.two.dark_seconds(grades.two)
     }
 
-    fn cents(&self, grades: Grades, portfolio: usize) -> u32
-        ensures { result ≡ cents_at self.now.numbers grades portfolio }
+    fn cents(&self, grades: Grades, portfolio: Portfolio) -> u32
+        ensures { result ≡ cents_at self.now.numbers grades (portfolio_number portfolio) }
     {
-        let renewed = renewals_of(portfolio);
-        let one = self.numbers.one.renewal_cents(renewed.one, grades.one);
-        let two = self.numbers.two.renewal_cents(renewed.two, grades.two);
-        let setup = if portfolio == NOTHING {
+        let one = self
+            .numbers
+            .one
+            .renewal_cents(portfolio.renews_one(), grades.one);
+        let two = self
+            .numbers
+            .two
+            .renewal_cents(portfolio.renews_two(), grades.two);
+        let setup = if portfolio == Portfolio::Nothing {
             0
         } else {
             self.numbers.setup
         };
         self.numbers.inspect + setup + one + two
-    }
-
-    fn survival(&self, rows: Grades) -> u32
-        requires { BothWorking self.now.numbers rows }
-        ensures { result ≡ survival_by self.now.numbers rows }
-    {
-        self.numbers.one.staying(rows.one) * self.numbers.two.staying(rows.two)
-    }
-
-    // The outcome that leads to state k, absent from the number of states on.
-    fn outcome_by(&self, rows: Grades, k: usize) -> Option<Outcome>
-        requires { BothWorking self.now.numbers rows }
-        ensures { result ≡ (if nat_lt k (all_states self.now.numbers) then Some (outcome_by self.now.numbers rows k) else None) }
-    {
-        if k >= self.numbers.all_states() {
-            return None;
-        }
-        let next = self.numbers.grades_in(k);
-        let one = self.numbers.one.chance(rows.one, next.one);
-        let two = self.numbers.two.chance(rows.two, next.two);
-        Some(Outcome {
-            next: k,
-            weight: one * two,
-        })
     }
 }
 
@@ -143,7 +153,7 @@ impl Plant for Pair {
     ghost lawful = { λ p. pair_lawful p.numbers (p.terms, (p.one, p.one_no_return, p.one_charges), (p.two, p.two_no_return, p.two_charges)) p.renewable };
 
     fn states(&self) -> usize {
-        self.numbers.all_states()
+        self.numbers.one.grades * self.numbers.two.grades
     }
 
     fn portfolios(&self) -> usize {
@@ -151,31 +161,32 @@ impl Plant for Pair {
     }
 
     fn feasible(&self, state: usize, portfolio: usize) -> bool {
-        self.rows(state, portfolio).is_some()
+        self.window(state, portfolio).is_some()
     }
 
     fn bill(&self, state: usize, portfolio: usize) -> Option<Bill> {
-        if !self.feasible(state, portfolio) {
-            return None;
-        }
-        let grades = self.numbers.grades_in(state);
+        let window = self.window(state, portfolio)?;
         Some(Bill {
-            seconds: self.seconds(grades),
-            cents: self.cents(grades, portfolio),
+            seconds: self.seconds(window.grades),
+            cents: self.cents(window.grades, window.portfolio),
         })
     }
 
     fn outcome_count(&self, state: usize, portfolio: usize) -> usize {
-        if !self.feasible(state, portfolio) {
-            return 0;
+        if self.feasible(state, portfolio) {
+            self.states()
+        } else {
+            0
         }
-        self.states()
     }
 
+    #[tactic(auto, using(crate::specs::Outcomes::no_outcome))]
     fn outcome(&self, state: usize, portfolio: usize, k: usize) -> Option<Outcome> {
-        match self.rows(state, portfolio) {
-            Some(rows) => self.outcome_by(rows, k),
-            None => None,
-        }
+        let rows = self.window(state, portfolio)?.rows;
+        let next = self.grades_of(k)?;
+        Some(Outcome {
+            next: k,
+            weight: rows.weight(next),
+        })
     }
 }

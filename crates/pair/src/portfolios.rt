@@ -1,29 +1,49 @@
 // The portfolios of a pair, and which units each renews.
 ghost use Rattle.std.specs.Prelude.{◌≡◌};
-ghost use Rattle.pair.specs.Portfolios.{renews_one, renews_two};
+ghost use Rattle.pair.specs.Portfolios.{Numbered, portfolio_number, renews_one, renews_two};
 
-// specs/Portfolios.antt has the same numbers for the contracts.
-pub const NOTHING: usize = 0;
-
-pub const UNIT_ONE: usize = 1;
-
-pub const UNIT_TWO: usize = 2;
-
-pub const BOTH: usize = 3;
-// How many portfolios there are.
+// How many portfolios there are; specs/Portfolios.antt has the same number, and that of each portfolio, for the contracts.
 pub const PORTFOLIOS: usize = 4;
 
-#[derive(Clone, Copy)]
-pub(crate) struct Renewals {
-    pub(crate) one: bool,
-    pub(crate) two: bool,
+// What is renewed in a window.
+#[derive(Clone, Copy, PartialEq, Eq, Debug)]
+pub enum Portfolio {
+    Nothing,
+    UnitOne,
+    UnitTwo,
+    Both,
 }
 
-pub(crate) fn renewals_of(portfolio: usize) -> Renewals
-    ensures { (result.one ≡ renews_one portfolio) × (result.two ≡ renews_two portfolio) }
-{
-    Renewals {
-        one: portfolio == UNIT_ONE || portfolio == BOTH,
-        two: portfolio == UNIT_TWO || portfolio == BOTH,
+// A number that no portfolio has.
+#[derive(Clone, Copy, PartialEq, Eq, Debug)]
+pub struct NoPortfolio(pub usize);
+
+impl TryFrom<usize> for Portfolio {
+    type Error = NoPortfolio;
+
+    ghost try_from_gives = { Numbered };
+
+    fn try_from(number: usize) -> Result<Self, NoPortfolio> {
+        match number {
+            0 => Ok(Portfolio::Nothing),
+            1 => Ok(Portfolio::UnitOne),
+            2 => Ok(Portfolio::UnitTwo),
+            3 => Ok(Portfolio::Both),
+            _ => Err(NoPortfolio(number)),
+        }
+    }
+}
+
+impl Portfolio {
+    pub(crate) fn renews_one(self) -> bool
+        ensures { result ≡ renews_one (portfolio_number self) }
+    {
+        matches!(self, Portfolio::UnitOne | Portfolio::Both)
+    }
+
+    pub(crate) fn renews_two(self) -> bool
+        ensures { result ≡ renews_two (portfolio_number self) }
+    {
+        matches!(self, Portfolio::UnitTwo | Portfolio::Both)
     }
 }

@@ -1,55 +1,42 @@
 // Whether the numbers of a pair are in range.
-ghost use Rattle.std.specs.Prelude.{◌≡◌, ℕ, ◌<◌, ◌≤◌, Decides, MatchBool};
+ghost use Rattle.std.specs.Prelude.{◌≡◌, ◌≤◌, length, sum, Decides, MatchBool};
 ghost use Rattle.pair.specs.Limits.{most_grades};
 ghost use Rattle.pair.specs.Pairs.{LawfulNumbers, Renewable, Unrenewable};
-ghost use Rattle.pair.specs.Units.{over_grades, hundredths, LawfulRow, WholeRows, NoReturn, LawfulUnit};
+ghost use Rattle.pair.specs.Units.{all_zero, row_test, rows_test, LawfulUnit};
 
 use crate::limits::{HUNDRED, LEAST_GRADES, MOST_CHARGE, MOST_DARK, MOST_GRADES, MOST_THRESHOLD};
 use crate::numbers::{PairNumbers, UnitNumbers};
+use crate::units::Rows;
+
+// The hundredths of a row, added up.
+fn total(row: &[u32]) -> u64
+    requires { length row.now ≤ most_grades }
+    ensures { result ≡ sum row.now }
+{
+    row.iter().map(|h| u64::from(*h)).sum()
+}
+
+fn all_zero(hundredths: &[u32]) -> bool
+    ensures { result ≡ all_zero hundredths.now }
+{
+    hundredths.iter().all(|h| *h == 0)
+}
 
 impl UnitNumbers {
-    // The hundredths of the row of a grade, added up.
-    fn row_total(&self, grade: usize) -> u64
-        requires { (1 ≤ grade) × (grade ≤ most_grades) × (self.now.grades ≤ most_grades) }
-        ensures { result ≡ over_grades (hundredths self.now grade) self.now.grades }
-    {
-        let mut total = 0;
-        for i in 0..self.grades {
-            total += u64::from(self.hundredths(grade, i + 1));
-        }
-        total
-    }
-
-    // Whether the row of a grade leads to no better grade.
-    fn never_better(&self, grade: usize) -> bool
-        requires { (1 ≤ grade) × (grade ≤ most_grades) }
-        ensures { Decides result ((h : ℕ) → 1 ≤ h → h < grade → hundredths self.now grade h ≡ 0) }
-    {
-        for next in 1..grade {
-            if self.hundredths(grade, next) != 0 {
-                return false;
-            }
-        }
-        true
-    }
-
+    // Whether the row of a grade adds up and leads to no better grade.
     fn row_lawful(&self, grade: usize) -> bool
         requires { (1 ≤ grade) × (grade ≤ most_grades) × (self.now.grades ≤ most_grades) }
-        ensures { Decides result (LawfulRow self.now grade) }
+        ensures { result ≡ row_test self.now grade }
     {
-        self.row_total(grade) == u64::from(HUNDRED) && self.never_better(grade)
+        let row = &self.rows[grade - 1];
+        total(&row[..self.grades]) == u64::from(HUNDRED) && all_zero(&row[..grade - 1])
     }
 
     fn rows_lawful(&self) -> bool
         requires { self.now.grades ≤ most_grades }
-        ensures { Decides result (WholeRows self.now × NoReturn self.now) }
+        ensures { result ≡ rows_test self.now }
     {
-        for grade in 1..self.grades {
-            if !self.row_lawful(grade) {
-                return false;
-            }
-        }
-        true
+        (1..self.grades).all(|grade| self.row_lawful(grade))
     }
 
     pub fn in_range(&self) -> bool
@@ -83,6 +70,10 @@ impl PairNumbers {
         requires { LawfulNumbers self.now }
         ensures { MatchBool result (Renewable self.now) (Unrenewable self.now) }
     {
-        self.threshold <= self.one.staying(1) * self.two.staying(1)
+        let renewed = Rows {
+            one: self.one.first_row(),
+            two: self.two.first_row(),
+        };
+        self.threshold <= renewed.survival()
     }
 }

@@ -1,35 +1,70 @@
 // How one unit moves, and what it costs.
-ghost use Rattle.std.specs.Prelude.{◌≡◌, ◌<◌, ◌≤◌, IfSome, if◌then◌else◌, Some, None};
-ghost use Rattle.pair.specs.Limits.{least_grades, most_grades, hundred};
-ghost use Rattle.pair.specs.Units.{hundredths, staying, failed, attended, row_grade, renewal_cents, dark_seconds, Working, LawfulGrades};
+ghost use Rattle.std.specs.Prelude.{◌≡◌, ◌≤◌, ◌*◌, IfSome, is_some};
+ghost use Rattle.pair.specs.Limits.{hundred};
+ghost use Rattle.pair.specs.States.{has_grade};
+ghost use Rattle.pair.specs.Units.{hundredths, staying, failed, attended, row_grade, renewal_cents, dark_seconds, HasGrade, Working, LawfulGrades};
 
 use crate::limits::HUNDRED;
 use crate::numbers::UnitNumbers;
+use crate::states::Grades;
 
-impl UnitNumbers {
-    pub(crate) fn hundredths(&self, grade: usize, next: usize) -> u32
-        requires { (1 ≤ grade) × (grade ≤ most_grades) × (1 ≤ next) × (next ≤ most_grades) }
-        ensures { result ≡ hundredths self.now grade next }
-    {
-        self.rows[grade - 1][next - 1]
-    }
+// A row by which a unit moves: that of a grade below the failed one, of a unit whose rows add up.
+#[derive(Clone, Copy)]
+pub(crate) struct Row<'a> {
+    pub(crate) unit: &'a UnitNumbers,
+    pub(crate) grade: usize,
+    ghost lawful: { LawfulGrades unit.now },
+    ghost working: { Working unit.now grade },
+}
 
-    // The hundredths of a next grade in a lawful row.
-    pub(crate) fn chance(&self, grade: usize, next: usize) -> u32
-        requires { (LawfulGrades self.now) × ((Working self.now grade) × ((1 ≤ next) × (next ≤ self.now.grades))) }
-        ensures value { result ≡ hundredths self.now grade next }
+impl<'a> Row<'a> {
+    // The hundredths of a next grade.
+    pub(crate) fn chance(self, next: usize) -> u32
+        requires { HasGrade self.unit.now next }
+        ensures value { result ≡ hundredths self.entry.unit.now self.entry.grade next }
         ensures small { result ≤ hundred }
     {
-        self.hundredths(grade, next)
+        self.unit.rows[self.grade - 1][next - 1]
     }
 
     // The hundredths of staying below the failed grade: what the row leaves beside failing.
-    pub(crate) fn staying(&self, grade: usize) -> u32
-        requires { (LawfulGrades self.now) × (Working self.now grade) }
-        ensures value { result ≡ staying self.now grade }
+    pub(crate) fn staying(self) -> u32
+        ensures value { result ≡ staying self.entry.unit.now self.entry.grade }
         ensures small { result ≤ hundred }
     {
-        HUNDRED - self.hundredths(grade, self.grades)
+        HUNDRED - self.chance(self.unit.grades)
+    }
+}
+
+// The rows by which both units move.
+#[derive(Clone, Copy)]
+pub(crate) struct Rows<'a> {
+    pub(crate) one: Row<'a>,
+    pub(crate) two: Row<'a>,
+}
+
+impl<'a> Rows<'a> {
+    // The ten-thousandths of both units staying below their failed grades.
+    pub(crate) fn survival(self) -> u32
+        ensures { result ≡ staying self.entry.one.unit.now self.entry.one.grade * staying self.entry.two.unit.now self.entry.two.grade }
+    {
+        self.one.staying() * self.two.staying()
+    }
+
+    // The ten-thousandths of both next grades.
+    pub(crate) fn weight(self, next: Grades) -> u32
+        requires { HasGrade self.one.unit.now next.one × HasGrade self.two.unit.now next.two }
+        ensures { result ≡ hundredths self.entry.one.unit.now self.entry.one.grade next.one * hundredths self.entry.two.unit.now self.entry.two.grade next.two }
+    {
+        self.one.chance(next.one) * self.two.chance(next.two)
+    }
+}
+
+impl UnitNumbers {
+    pub(crate) fn has_grade(&self, grade: usize) -> bool
+        ensures { result ≡ has_grade self.now grade }
+    {
+        1 <= grade && grade <= self.grades
     }
 
     fn is_failed(&self, grade: usize) -> bool
@@ -38,18 +73,29 @@ impl UnitNumbers {
         grade == self.grades
     }
 
-    // The grade by whose row the unit moves, 1 if it is renewed; absent exactly when it is failed and not renewed.
-    pub(crate) fn row_grade(&self, renewed: bool, grade: usize) -> Option<usize>
-        requires { (least_grades ≤ self.now.grades) × (1 ≤ grade) × (grade ≤ self.now.grades) }
-        ensures value { result ≡ (if attended self.now renewed grade then Some (row_grade renewed grade) else None) }
-        ensures working { IfSome result (Working self.now) }
+    // The row by which the unit moves when it is renewed.
+    pub(crate) fn first_row(&self) -> Row<'_>
+        requires { LawfulGrades self.now }
+        ensures { (result.unit.now ≡ self.now) × (result.grade ≡ 1) }
+    {
+        Row {
+            unit: self,
+            grade: 1,
+        }
+    }
+
+    // The row by which the unit moves, that of grade 1 if it is renewed; absent exactly when it is failed and not renewed.
+    pub(crate) fn row_from(&self, renewed: bool, grade: usize) -> Option<Row<'_>>
+        requires { LawfulGrades self.now × HasGrade self.now grade }
+        ensures present { is_some result ≡ attended self.now renewed grade }
+        ensures row { IfSome result (λ r. (r.unit.now ≡ self.now) × (r.grade ≡ row_grade renewed grade)) }
     {
         if renewed {
-            Some(1)
+            Some(self.first_row())
         } else if self.is_failed(grade) {
             None
         } else {
-            Some(grade)
+            Some(Row { unit: self, grade })
         }
     }
 

@@ -1,8 +1,12 @@
-use Rattle.std.proofs.Common.{arith}
+use Rattle.std.proofs.Common.{arith, sym, ◌∙◌}
+use Rattle.pair.specs.Units.{WholeRows, NoReturn}
+use Rattle.pair.proofs.Rows.{rows_decided}
 use Rattle.pair.proofs.numbers.UnitNumbers.in_range.Goals as goal
 
 pub returns : goal.returns
-returns c = (
-  λ e. let rows = c.rows_lawful.ensures.0 e in ((omega arith, omega arith, rows.0), rows.1, omega arith),
-  λ l. c.rows_lawful.ensures.1 (l.0.2, l.1),
-)
+returns c =
+    let u = c.args.self.now in
+    let test = c.rows_lawful.ensures in (
+      λ e. let rows : WholeRows u × NoReturn u = (rows_decided u).0 (sym test ∙ e) in ((omega arith, omega arith, rows.0), rows.1, omega arith),
+      λ l. test ∙ (rows_decided u).1 (l.0.2, l.1),
+    )
