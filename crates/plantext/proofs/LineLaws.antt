@@ -1,17 +1,15 @@
 -- The lines of a plan by their numbers, and what the call for one of them answers.
-use Rattle.std.proofs.Common.{◌≡◌, ℕ, zero, suc, ◌+◌, ◌-◌, ◌<◌, ◌≤◌, Bool, true, false, cond, List, [], ◌∷◌, ◌++◌, map, length, take, Some, None, Ok, Err, Option, Result, sym, refl, ap, ◌∙◌, add-zero, arith}
+use Rattle.std.proofs.Common.{◌≡◌, ℕ, zero, suc, ◌+◌, ◌-◌, ◌<◌, ◌≤◌, Bool, true, false, cond, List, [], ◌∷◌, ◌++◌, map, length, Some, None, Ok, Err, Option, Result, sym, refl, ap, ◌∙◌, add-zero, arith}
 use Rattle.std.specs.List.{slice_get, range_with_len}
 use Rattle.std.specs.Option.{option_map}
-use Rattle.std.proofs.lemmas.List.{length-take}
 use Rattle.std.proofs.lemmas.Bool.{leb-false}
 use Rattle.lines.specs.Placed.{fits, end_of, placed}
-use Rattle.lines.proofs.PlaceLaws.{placed_between}
 use Rattle.plantext.specs.declared.refusal.LineRefusal.{LineRefusal}
 use Rattle.plantext.specs.declared.refusal.LineRefusal.TheVariants.{WrongLength, NoSpace}
 use Rattle.plantext.specs.declared.stage.Stage.{Stage}
 use Rattle.plantext.specs.declared.stage.Stage.TheVariants.{Row, End}
 use Rattle.plantext.specs.Lines.{Plan, stages, stage_line, plan_lines}
-use Rattle.plantext.specs.Spaces.{level, Put, line_answer, line_space, AnswersLine}
+use Rattle.plantext.specs.Spaces.{level, line_answer, line_space, AnswersLine}
 
 nth_map : {A B : Type 0} (f : A → B) (xs : List A) (i : ℕ) → slice_get (map f xs) i ≡ option_map f (slice_get xs i)
 nth_map f [] i = refl
@@ -47,10 +45,6 @@ stage_past n j l = let is : j ≡ suc (suc (suc (j - 3))) = omega arith in ap (s
 pub line_at : (p : Plan) (j : ℕ) → slice_get (plan_lines p) j ≡ option_map (stage_line p) (slice_get (stages (length p.values)) j)
 line_at p j = nth_map (stage_line p) (stages (length p.values)) j
 
--- what was written at the front of a space
-pub put_front : {l s t : List ℕ} {e : ℕ} → Put l 0 s t e → take (e - 0) t ≡ l
-put_front {l} {s} {t} {e} p = ap (take (e - 0)) p.after ∙ placed_between l s 0 e p.ends
-
 module _ (p : Plan) (j : ℕ) (space : List ℕ) where
   pub not_level : level (length p.values) (length p.policy) ≡ false → AnswersLine p j space space (Err WrongLength)
   not_level h = record { answer = sym (ap (λ t. line_answer t (slice_get (plan_lines p) j) space) h); after = sym (ap (λ t. line_space t (slice_get (plan_lines p) j) space) h) }
@@ -80,10 +74,10 @@ module _ (p : Plan) (j : ℕ) (space : List ℕ) where
         full true q = let z : ◌≡◌ {A = ℕ} 0 1 = cc in absurd (omega arith)
         full false q = refl
 
--- a text that finds no room is longer than the space, and no longer than what it was cut from
-pub no_room : (n : ℕ) (out space : List ℕ) → None ≡ end_of (take n out) 0 space → length space < length out
-no_room n out space e = tested (fits (take n out) 0 space) refl e
+-- a text that finds no room is longer than the space
+pub no_room : (text space : List ℕ) → None ≡ end_of text 0 space → length space < length text
+no_room text space e = tested (fits text 0 space) refl e
   where
-    tested : (t : Bool) → fits (take n out) 0 space ≡ t → None ≡ cond t (Some (0 + length (take n out))) None → length space < length out
+    tested : (t : Bool) → fits text 0 space ≡ t → None ≡ cond t (Some (0 + length text)) None → length space < length text
     tested true q e = let z : ◌≡◌ {A = ℕ} 0 1 = cc in absurd (omega arith)
-    tested false q e = omega (arith, leb-false (0 + length (take n out)) (length space) q, length-take n out)
+    tested false q e = omega (arith, leb-false (0 + length text) (length space) q)

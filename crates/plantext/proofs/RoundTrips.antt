@@ -9,11 +9,11 @@ use Rattle.std.proofs.lemmas.List.{append_assoc, length-append, length-map, ext_
 use Rattle.std.proofs.lemmas.Bool.{eq-eqb, and_from, cond-true, cases_lt}
 use Rattle.interface.specs.Limits.{most_states, most_places}
 use Rattle.interface.specs.Rows.{Row as Amounts}
+use Rattle.interface.specs.declared.claims.Claims.{Claims}
 use Rattle.lines.specs.Fields.{comma, joined, fields}
 use Rattle.lines.specs.Line.{equals_sign, line_end, Said, pair, line_at, rest_at, Printable, Begins}
 use Rattle.lines.proofs.DigitLaws.{signed_printable, decimal_printable}
 use Rattle.lines.proofs.LineLaws.{line_begins, begins_line, begins_rest}
-use Rattle.plantext.specs.declared.claims.PlanClaims.{PlanClaims}
 use Rattle.plantext.specs.declared.refusal.PlanRefusal.{PlanRefusal}
 use Rattle.plantext.specs.declared.refusal.PlanRefusal.TheVariants.{AtLine, WrongLength}
 use Rattle.plantext.specs.declared.stage.Stage.{Stage}
@@ -199,7 +199,7 @@ module _ (places : ℕ) (some : 0 < places) (few : places ≤ most_places) where
         λ i. record { values = values i; policy = policy i; low = low i; high = high i }
 
   -- what the reading answers for the text of a lawful plan
-  pub gives_back : {A : Type 0} (row : A → Amounts) (text : List ℕ) (t t' : Tables A) (r : Result (PlanClaims A) PlanRefusal) → length t'.values ≡ length t.values → PlanAnswer row places text t t' r → GivesBack row places text t t' r
+  pub gives_back : {A : Type 0} (row : A → Amounts) (text : List ℕ) (t t' : Tables A) (r : Result (Claims A) PlanRefusal) → length t'.values ≡ length t.values → PlanAnswer row places text t t' r → GivesBack row places text t t' r
   gives_back row text t t' (Ok c) long h q lawful values policy is =
       same_plan (plan_of row t' c) q h.1.lawful lawful (length-map t'.values row ∙ long ∙ sym values) (sym h.1.text_is ∙ is)
   gives_back row text t t' (Err (AtLine f line)) long h q lawful values policy is =

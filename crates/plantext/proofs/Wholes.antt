@@ -2,8 +2,8 @@
 use Rattle.std.proofs.Common.{◌≡◌, ℕ, ◌+◌, Bool, true, false, cond, ◌&&◌, eqb, List, [], ◌∷◌, ◌++◌, length, Some, None, Err, Option, Result, sym, ap, ◌∙◌, subst, arith}
 use Rattle.std.proofs.lemmas.Bool.{eq-eqb, and_from, cond-true}
 use Rattle.interface.specs.Rows.{Row}
+use Rattle.interface.specs.declared.claims.Claims.{Claims}
 use Rattle.lines.specs.Line.{Said, pair, line_at, rest_at}
-use Rattle.plantext.specs.declared.claims.PlanClaims.{PlanClaims}
 use Rattle.plantext.specs.declared.refusal.Fault.{Fault}
 use Rattle.plantext.specs.declared.refusal.PlanRefusal.{PlanRefusal}
 use Rattle.plantext.specs.declared.refusal.PlanRefusal.TheVariants.{AtLine, WrongLength}
@@ -70,5 +70,5 @@ fault_place places [] j text e h = over_place j (line_fault places None (line_at
 fault_place places (d ∷ ds) j text e h = at_place j (line_fault places (Some d) (line_at text)) (first_fault places ds (j + 1) (rest_at text)) e (fault_place places ds (j + 1) (rest_at text) e) h
 
 -- a text that is refused at a line
-pub read_refused : {A : Type 0} (row : A → Row) (places : ℕ) (text : List ℕ) (t t' : Tables A) (r : Result (PlanClaims A) PlanRefusal) (y e : PlanRefusal) → r ≡ Err y → y ≡ e → (g : Fault) × ((i : ℕ) × (e ≡ AtLine g i)) → refusal places (length t.values) (length t.policy) text ≡ Some e → PlanRead row places text t t' r
+pub read_refused : {A : Type 0} (row : A → Row) (places : ℕ) (text : List ℕ) (t t' : Tables A) (r : Result (Claims A) PlanRefusal) (y e : PlanRefusal) → r ≡ Err y → y ≡ e → (g : Fault) × ((i : ℕ) × (e ≡ AtLine g i)) → refusal places (length t.values) (length t.policy) text ≡ Some e → PlanRead row places text t t' r
 read_refused row places text t t' r y e is same at h = subst (PlanRead row places text t t') (sym (is ∙ ap Err (same ∙ at.1.1))) (h ∙ ap Some at.1.1)

@@ -1,5 +1,4 @@
 pub mod Answers
-pub mod Keys
 pub mod Lines
 pub mod Progress
 pub mod Reading

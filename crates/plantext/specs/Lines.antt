@@ -52,8 +52,11 @@ abbrev pub high_line : Amounts → List ℕ
 high_line u = line (codes "high") (amount u)
 
 -- the state, its portfolio and the places of its value
+abbrev pub row_text : ℕ → ℕ → Amounts → List ℕ
+row_text s x u = joined (decimal s ∷ (decimal x ∷ map signed_decimal u))
+
 abbrev pub row_line : ℕ → ℕ → Amounts → List ℕ
-row_line s x u = line (codes "row") (joined (decimal s ∷ (decimal x ∷ map signed_decimal u)))
+row_line s x u = line (codes "row") (row_text s x u)
 
 abbrev pub end_line : List ℕ
 end_line = line (codes "end") (codes "plan")
@@ -61,6 +64,14 @@ end_line = line (codes "end") (codes "plan")
 -- the lines of a plan with n states by what stands in them, in order
 abbrev pub stages : ℕ → List Stage
 stages n = States ∷ (Low ∷ (High ∷ (map Row (range_with_len 0 n) ++ (End ∷ []))))
+
+-- what stands behind the equals sign in a line of a plan
+abbrev pub value_text : Plan → Stage → List ℕ
+value_text p States = decimal (length p.values)
+value_text p Low = amount p.low
+value_text p High = amount p.high
+value_text p (Row s) = row_text s (slice_index p.policy s) (slice_index_or p.values s [])
+value_text p End = codes "plan"
 
 -- what stands in a line of a plan
 abbrev pub stage_line : Plan → Stage → List ℕ

@@ -20,7 +20,7 @@ pub record Progress : Type 0 where
   pub plan : Plan
 
 abbrev pub progress : {A : Type 0} → (A → Amounts) → Reader A → List A → List ℕ → Progress
-progress row r vs xs = record { due = r.due; states = r.states; plan = record { values = map row vs; policy = xs; low = row r.low; high = row r.high } }
+progress row r vs xs = record { due = r.due; states = r.states; plan = record { values = map row vs; policy = xs; low = row r.claims.low; high = row r.claims.high } }
 
 -- the line behind the row of state s, of a plan with n states
 abbrev pub after_row : ℕ → ℕ → Stage

@@ -3,25 +3,22 @@ use Rattle.std.specs.Prelude.{◌≡◌, ℕ, zero, suc, ◌<◌, ◌≤◌, Boo
 use Rattle.std.specs.List.{slice_get}
 use Rattle.interface.specs.Limits.{most_states}
 use Rattle.lines.specs.Fields.{comma}
-use Rattle.lines.specs.Placed.{fits, end_of, placed}
+use Rattle.lines.specs.Placed.{fits, placed}
 use Rattle.plantext.specs.declared.refusal.LineRefusal.{LineRefusal}
 use Rattle.plantext.specs.declared.refusal.LineRefusal.TheVariants.{WrongLength, NoSpace}
 use Rattle.plantext.specs.declared.stage.Stage.{Stage}
 use Rattle.plantext.specs.declared.stage.Stage.TheVariants.{States, Low, High, Row, End}
 use Rattle.plantext.specs.Lines.{Plan, Held, most_portfolio, stages, plan_lines}
 
--- room for a number, for a place with its comma, for an amount of 4 places, for a key, and for a line with its line end
-abbrev pub number_room : ℕ
-number_room = 20
-
+-- room for a place with its comma, for an amount of 4 places, for the value of a line, and for a line with its line end
 abbrev pub place_room : ℕ
 place_room = 21
 
 abbrev pub amount_room : ℕ
 amount_room = 84
 
-abbrev pub key_room : ℕ
-key_room = 10
+abbrev pub value_room : ℕ
+value_room = 126
 
 abbrev pub line_room : ℕ
 line_room = 200
@@ -29,11 +26,6 @@ line_room = 200
 -- both tables have the same number of entries, 1 to 4,096
 abbrev pub level : ℕ → ℕ → Bool
 level n m = m == n && (nat_le 1 n && nat_le n most_states)
-
--- a text stands in the space from a place on, up to its end; all before and behind is as it was
-pub record Put (text : List ℕ) (at : ℕ) (space space' : List ℕ) (end : ℕ) : Type 0 where
-  pub ends : end_of text at space ≡ Some end
-  pub after : space' ≡ placed text at space
 
 -- a field of a list with the comma before it, which the first has not
 abbrev pub separated : ℕ → List ℕ → List ℕ

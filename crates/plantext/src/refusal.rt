@@ -1,6 +1,8 @@
 ghost use Rattle.std.specs.Prelude.{◌≡◌};
 ghost use Rattle.plantext.specs.Refusals.{line_number, line_place, fault_number, plan_number, plan_place};
 
+use lines::reading::BAD_LINE;
+
 // Why a line of a plan is not written.
 #[derive(Clone, Copy, PartialEq, Eq, Debug)]
 pub enum LineRefusal {
@@ -49,6 +51,21 @@ impl Fault {
             Fault::BadLine => 1,
             Fault::NotDue => 2,
             Fault::OutOfForm => 3,
+        }
+    }
+}
+
+// The fault of a line that is none, by its number.
+impl From<u8> for Fault {
+    ghost use Rattle.plantext.specs.Reading.{said_fault};
+
+    ghost from_gives = { λ number fault. fault ≡ said_fault number };
+
+    fn from(number: u8) -> Fault {
+        if number == BAD_LINE {
+            Fault::BadLine
+        } else {
+            Fault::NotDue
         }
     }
 }

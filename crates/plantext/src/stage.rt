@@ -1,7 +1,10 @@
 // The lines of a plan by what stands in them.
-ghost use Rattle.std.specs.Prelude.{◌≡◌, IfSome};
+ghost use Rattle.std.specs.Prelude.{◌≡◌, ◌≤◌, length, IfSome};
 ghost use Rattle.std.specs.List.{slice_get};
 ghost use Rattle.plantext.specs.Lines.{stages, Inside};
+ghost use Rattle.plantext.specs.Reading.{key_of};
+
+use std::cmp::Ordering;
 
 // The keys of a plan's lines, and the word of the last.
 pub const STATES: &[u8] = b"states";
@@ -30,6 +33,20 @@ pub enum Stage {
 }
 
 impl Stage {
+    // The key of the line.
+    pub(crate) fn key(self) -> &'static [u8]
+        ensures key { result.now ≡ key_of self }
+        ensures short { length result.now ≤ 6 }
+    {
+        match self {
+            Stage::States => STATES,
+            Stage::Low => LOW,
+            Stage::High => HIGH,
+            Stage::Row(_) => ROW,
+            Stage::End => END,
+        }
+    }
+
     // Line j of a plan with so many states, absent past the last.
     pub(crate) fn at(states: usize, j: usize) -> Option<Stage>
         ensures value { result ≡ slice_get (stages states) j }
@@ -41,12 +58,10 @@ impl Stage {
             2 => Some(Stage::High),
             _ => {
                 let state = j - LINES_BEFORE_ROWS;
-                if state < states {
-                    Some(Stage::Row(state))
-                } else if state == states {
-                    Some(Stage::End)
-                } else {
-                    None
+                match state.cmp(&states) {
+                    Ordering::Less => Some(Stage::Row(state)),
+                    Ordering::Equal => Some(Stage::End),
+                    Ordering::Greater => None,
                 }
             }
         }

@@ -16,11 +16,9 @@ pub const MOST_PORTFOLIO: u64 = u16::MAX as u64;
 pub(crate) fn read_count(value: &[u8]) -> Option<usize>
     ensures { result ≡ count_of value.now }
 {
-    match number(value, MOST_STATES as u64) {
-        Some(0) => None,
-        Some(count) => Some(count as usize),
-        None => None,
-    }
+    number(value, MOST_STATES as u64)
+        .filter(|count| *count > 0)
+        .map(|count| count as usize)
 }
 
 // The amount whose places are the fields that are left.
@@ -32,10 +30,10 @@ fn read_places<T: Tariff>(tariff: &T, mut fields: Fields) -> Option<T::Amount>
         let place = signed(fields.next_field()?)?;
         amount = tariff.with_place(amount, i, place)?;
     }
-    match fields.next_field() {
-        Some(_) => None,
-        None => Some(amount),
+    if fields.next_field().is_some() {
+        return None;
     }
+    Some(amount)
 }
 
 // An amount.
@@ -62,9 +60,7 @@ pub(crate) fn read_entry<T: Tariff>(
     let mut fields = Fields::new(value);
     let turn = fields.next_field()?;
     let portfolio = fields.next_field()?;
-    if number(turn, MOST_STATES as u64)? != state as u64 {
-        return None;
-    }
+    number(turn, MOST_STATES as u64).filter(|turn| *turn == state as u64)?;
     let portfolio = number(portfolio, MOST_PORTFOLIO)? as u16;
     let value = read_places(tariff, fields)?;
     Some(StateEntry { portfolio, value })
