@@ -5,13 +5,13 @@ use Rattle.std.specs.List.{slice_get, range_with_len}
 use Rattle.std.proofs.lemmas.List.{append_assoc, append-nil, length-append, length-map}
 use Rattle.std.proofs.lemmas.Bool.{leb-true, le-leb, eq-eqb}
 use Rattle.interface.specs.Limits.{most_states}
-use Rattle.lines.specs.Placed.{fits}
+use Rattle.lines.specs.Placed.{fits, end_of, placed}
+use Rattle.lines.proofs.PlaceLaws.{placed_between}
 use Rattle.plantext.specs.declared.refusal.LineRefusal.{LineRefusal}
 use Rattle.plantext.specs.declared.refusal.LineRefusal.TheVariants.{WrongLength, NoSpace}
 use Rattle.plantext.specs.declared.stage.Stage.TheVariants.{Row, End}
 use Rattle.plantext.specs.Lines.{Plan, stages, plan_lines, concat, plan_text, stage_line}
-use Rattle.plantext.specs.Spaces.{level, line_room, Put, line_answer, line_space, AnswersLine, Tight}
-use Rattle.plantext.proofs.LineLaws.{put_front}
+use Rattle.plantext.specs.Spaces.{level, line_room, line_answer, line_space, AnswersLine, Tight}
 use Rattle.reply.specs.Plans.{Written, Pushed}
 
 -- a plan has a line for each state and four more
@@ -42,14 +42,22 @@ concat_all [] (suc j) h = refl
 concat_all (k ∷ ls) zero h = absurd (omega arith)
 concat_all (k ∷ ls) (suc j) h = ap (λ t. k ++ t) (concat_all ls j (omega arith))
 
+-- a line stands at the front of the space, up to its end; all behind is as it was
+record Put (l : List ℕ) (space space' : List ℕ) (end : ℕ) : Type 0 where
+  pub ends : end_of l 0 space ≡ Some end
+  pub after : space' ≡ placed l 0 space
+
+put_front : {l s t : List ℕ} {e : ℕ} → Put l s t e → take (e - 0) t ≡ l
+put_front {l} {s} {t} {e} p = ap (take (e - 0)) p.after ∙ placed_between l s 0 e p.ends
+
 -- a line that was answered stands at the front of the space
 module _ (p : Plan) (j : ℕ) (space space' : List ℕ) where
-  put_of : (n : ℕ) (t : Bool) (o : Option (List ℕ)) → Ok (Some n) ≡ line_answer t o space → space' ≡ line_space t o space → (l : List ℕ) × ((o ≡ Some l) × Put l 0 space space' n)
+  put_of : (n : ℕ) (t : Bool) (o : Option (List ℕ)) → Ok (Some n) ≡ line_answer t o space → space' ≡ line_space t o space → (l : List ℕ) × ((o ≡ Some l) × Put l space space' n)
   put_of n false o e q = let z : ◌≡◌ {A = ℕ} 0 1 = cc in absurd (omega arith)
   put_of n true None e q = let z : ◌≡◌ {A = ℕ} 0 1 = cc in absurd (omega arith)
   put_of n true (Some l) e q = (l, (refl, tested (fits l 0 space) refl e))
     where
-      tested : (t : Bool) → fits l 0 space ≡ t → Ok (Some n) ≡ cond t (Ok (Some (length l))) (Err NoSpace) → Put l 0 space space' n
+      tested : (t : Bool) → fits l 0 space ≡ t → Ok (Some n) ≡ cond t (Ok (Some (length l))) (Err NoSpace) → Put l space space' n
       tested true r e = let is : n ≡ length l = cc in record { ends = ap (λ t. cond t (Some (0 + length l)) None) r ∙ ap Some (omega (arith, is)); after = q }
       tested false r e = let z : ◌≡◌ {A = ℕ} 0 1 = cc in absurd (omega arith)
 

@@ -25,7 +25,7 @@ fn line_into<T: Tariff>(
     requires inside { j < length values.now + 4 }
     ensures { Written (plan_of T.Tariff.row values.now policy.now claims) j space.new result }
 {
-    let written = match plan_line(tariff, values, policy, claims.low, claims.high, j, space) {
+    let written = match plan_line(tariff, values, policy, claims, j, space) {
         Ok(written) => written,
         Err(_) => unreachable(),
     };
