@@ -1,4 +1,6 @@
 pub mod Dearest
+pub mod Places
+pub mod Counting
 pub mod Turns
 pub mod Meaning
 pub mod Instance

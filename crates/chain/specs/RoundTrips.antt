@@ -109,11 +109,10 @@ module _ (n : ChainNumbers) (terms : LawfulTerms n) (lives : LivesInRange n) whe
   without_loss = record { back = back; forth = forth }
 
 -- the number that the code gives
-pub number_there : (n : ChainNumbers) (st : ChainState) (xs : List ℕ) (r : ℕ) → st.failed ≤ n.count → Aged n st → Entries (λ i. entry st.ages i - 1) n.count xs → r ≡ state_with n (λ i. entry xs i + 1) st.failed → Some r ≡ number_of n st
-number_there n st xs r inside aged entries is =
-    let less : (i : ℕ) → 1 ≤ i → i ≤ n.count → (entry xs i + 1 - 1) * product (life n) (i - 1) ≡ (entry st.ages i - 1) * product (life n) (i - 1) = λ i some most. let e = entries i some most in let same : entry xs i + 1 - 1 ≡ entry st.ages i - 1 = omega arith in ap (λ z. z * product (life n) (i - 1)) same in
+pub number_there : (n : ChainNumbers) (st : ChainState) (t : ℕ) → st.failed ≤ n.count → Aged n st → t ≡ number (life n) (λ j. entry st.ages j - 1) n.count → Some ((n.count + 1) * t + st.failed) ≡ number_of n st
+number_there n st t inside aged is =
     let may_be : possible n st ≡ true = and_from (nat_le st.failed n.count) _ (le-leb st.failed n.count inside) ((aged_decides n st).1 aged) in
-    rw may_be (ap Some (is ∙ ap (λ z. (n.count + 1) * z + st.failed) (over_alike _ _ n.count less)))
+    rw may_be (ap (λ z. Some ((n.count + 1) * z + st.failed)) is)
 
 pub number_absent : (n : ChainNumbers) (st : ChainState) → (Aged n st → ⊥) → None ≡ number_of n st
 number_absent n st none =

@@ -2,31 +2,29 @@
 ghost use Rattle.std.specs.Prelude.{◌≡◌, ◌*◌, ◌≤◌};
 ghost use Rattle.chain.specs.Chains.{dark_seconds as the_dark, failure_charge as the_charge};
 ghost use Rattle.chain.specs.Limits.{most_charge};
-ghost use Rattle.chain.specs.Parts.{ChargesInRange, LawfulTerms};
+ghost use Rattle.chain.specs.States.{failed_in};
 
-use crate::numbers::ChainNumbers;
+use crate::plant::Chain;
 
-impl ChainNumbers {
-    // In cents: the alarm and the surplus of the failed part, if there is one.
-    pub(crate) fn failure_charge(&self, failed: usize) -> u32
-        requires { (LawfulTerms self.now) × ((ChargesInRange self.now) × (failed ≤ self.now.count)) }
-        ensures value { result ≡ the_charge self.now failed }
+impl Chain {
+    // In cents: the alarm and the surplus of the part that has failed in a state, if there is one.
+    pub(crate) fn failure_charge(&self, state: usize) -> u32
+        ensures value { result ≡ the_charge self.now.numbers (failed_in self.now.numbers state) }
         ensures few { result ≤ 2 * most_charge }
     {
-        if failed == 0 {
-            return 0;
+        match self.failed_in(state) {
+            0 => 0,
+            part => self.numbers.alarm + self.numbers.parts[part - 1].surplus,
         }
-        self.alarm + self.parts[failed - 1].surplus
     }
 
-    // The dark seconds of the failed part, if there is one.
-    pub(crate) fn dark_seconds(&self, failed: usize) -> u32
-        requires { (LawfulTerms self.now) × (failed ≤ self.now.count) }
-        ensures { result ≡ the_dark self.now failed }
+    // The dark seconds of the part that has failed in a state, if there is one.
+    pub(crate) fn dark_seconds(&self, state: usize) -> u32
+        ensures { result ≡ the_dark self.now.numbers (failed_in self.now.numbers state) }
     {
-        match failed {
+        match self.failed_in(state) {
             0 => 0,
-            part => self.parts[part - 1].dark,
+            part => self.numbers.parts[part - 1].dark,
         }
     }
 }

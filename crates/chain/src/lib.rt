@@ -4,7 +4,6 @@
 mod charges;
 pub mod limits;
 pub mod numbers;
-mod outcomes;
 mod parts;
 pub mod plant;
 mod portfolios;

@@ -1,38 +1,33 @@
 // The chain as a plant.
-ghost use Rattle.std.specs.Prelude.{◌≡◌, ◌+◌, ◌<◌, ◌≤◌, Some, None, MatchResult};
-ghost use Rattle.chain.specs.Chains.{RenewableBy, Starts, chain_model, renewal_cents};
+ghost use Rattle.std.specs.Prelude.{◌≡◌, ◌<◌, ◌≤◌, MatchResult};
+ghost use Rattle.chain.specs.Chains.{RenewableBy, chain_model, renewal_cents};
 ghost use Rattle.chain.specs.Laws.{ChainLaws, Figures, LeastWithin, SomeChain};
-ghost use Rattle.chain.specs.Limits.{most_charge};
 ghost use Rattle.chain.specs.Made.{Made};
-ghost use Rattle.chain.specs.Parts.{ChargesInRange, HazardsInRange, LawfulTerms, LivesInRange, arcs_of};
+ghost use Rattle.chain.specs.Parts.{LawfulNumbers, arcs_of};
 ghost use Rattle.chain.specs.Refusals.{Refused};
-ghost use Rattle.chain.specs.States.{WithoutLoss, all_states, number_of, state_at};
+ghost use Rattle.chain.specs.States.{all_states, failed_in};
 ghost use Rattle.chain.specs.Windows.{WhenFeasible};
 ghost use Rattle.interface.specs.Limits.{most_states};
-ghost use Rattle.workorder.specs.Orders.{LeastTable, NoneDearer, portfolios as least_places};
-ghost use Rattle.chain.specs.LawsLemmas.{chain_lawful, lawful_from, renewable_from};
+ghost use Rattle.workorder.specs.Orders.{LeastTable, portfolios as least_places};
+ghost use Rattle.chain.specs.LawsLemmas.{chain_lawful, renewable_from};
 ghost use Rattle.workorder.proofs.WorkOrders.{table_held};
 ghost use Rattle.std.proofs.Common.{arith};
 
 use crate::numbers::ChainNumbers;
+use crate::ranges::InRange;
 use crate::refusal::ChainRefusal;
-use crate::states::ChainState;
 use crate::windows::Window;
 use interface::limits::{MOST_STATES, WHOLE};
 use interface::plant::{Bill, Outcome, Plant};
-use workorder::{MAX_PARTS, PORTFOLIOS, least_work_orders};
+use workorder::{PORTFOLIOS, least_work_orders};
 
 #[derive(Clone, Copy)]
 pub struct Chain {
-    numbers: ChainNumbers,
-    states: usize,
+    pub(crate) numbers: ChainNumbers,
+    pub(crate) states: usize,
     // The least cents of a work order for each portfolio.
     least: [Option<u64>; PORTFOLIOS],
-    ghost terms: { LawfulTerms numbers },
-    ghost lives: { LivesInRange numbers },
-    ghost hazards: { HazardsInRange numbers },
-    ghost charges: { ChargesInRange numbers },
-    ghost dearest: { NoneDearer most_charge (arcs_of numbers) },
+    ghost ranges: { LawfulNumbers numbers },
     ghost counted: { states ≡ all_states numbers },
     ghost few: { states ≤ most_states },
     ghost right: { ∥ LeastTable (arcs_of numbers) least ∥₁ },
@@ -45,19 +40,17 @@ impl Chain {
     pub fn new(numbers: ChainNumbers) -> Result<Chain, ChainRefusal>
         ensures { MatchResult result (λ c. (c.numbers ≡ numbers) × Made numbers c.least) (Refused numbers) }
     {
-        if !numbers.in_range() {
-            return Err(ChainRefusal::OutOfRange);
-        }
-        let states = numbers.state_count();
+        let ranged = InRange::new(numbers).ok_or(ChainRefusal::OutOfRange)?;
+        let states = ranged.state_count();
         if states > MOST_STATES {
             return Err(ChainRefusal::TooManyStates);
         }
-        let least = least_work_orders(&numbers.arcs[0..numbers.arc_count]);
-        if !numbers.renewable(&least) {
+        let least = least_work_orders(ranged.arcs());
+        if !ranged.renewable(&least) {
             return Err(ChainRefusal::NoFullRenewal);
         }
         Ok(Chain {
-            numbers,
+            numbers: ranged.numbers,
             states,
             least,
         })
@@ -84,48 +77,6 @@ impl Chain {
         self.least[portfolio]
     }
 
-    // The number of a state, absent exactly when a part cannot have its age or the chain has no such failed part.
-    pub fn state_number(&self, state: &ChainState) -> Option<usize>
-        ensures value { result ≡ number_of self.now.numbers state.now }
-        ensures kept { WithoutLoss self.now.numbers }
-    {
-        self.numbers.number_of(state)
-    }
-
-    // The state with a number, absent from the number of states on.
-    pub fn state_of(&self, number: usize) -> Option<ChainState>
-        ensures value { result ≡ state_at self.now.numbers number }
-        ensures kept { WithoutLoss self.now.numbers }
-    {
-        if number >= self.states {
-            return None;
-        }
-        Some(ChainState {
-            ages: self.numbers.ages_in(number),
-            failed: self.numbers.failed_in(number),
-        })
-    }
-
-    // The ages at which the parts start the window; there are none exactly when the pair is not feasible.
-    fn starts(&self, state: usize, portfolio: usize) -> Option<[usize; MAX_PARTS]>
-        ensures { Starts self.now.numbers self.now.least state portfolio result }
-    {
-        if state >= self.states || portfolio >= self.numbers.portfolio_count() {
-            return None;
-        }
-        let order = self.least[portfolio];
-        if !self.numbers.failure_renewed(state, portfolio) || order.is_none() {
-            return None;
-        }
-        let Some(starts) = self.numbers.start_ages(state, portfolio) else {
-            return None;
-        };
-        if !self.numbers.survives(self.numbers.hazard_sum(&starts)) {
-            return None;
-        }
-        Some(starts)
-    }
-
     // The window of a pair, asked about one part; there is none exactly when the pair is not feasible.
     fn window(&self, state: usize, portfolio: usize, part: usize) -> Option<Window>
         ensures { WhenFeasible self.now.numbers self.now.least state portfolio part result }
@@ -133,28 +84,26 @@ impl Chain {
         if state >= self.states || portfolio >= self.numbers.portfolio_count() {
             return None;
         }
-        if !self.numbers.failure_renewed(state, portfolio) || self.least[portfolio].is_none() {
+        if !self.failure_renewed(state, portfolio) || self.least[portfolio].is_none() {
             return None;
         }
-        let Some(window) = self.numbers.window(state, portfolio, part) else {
-            return None;
-        };
+        let window = self.coming_window(state, portfolio, part)?;
         if !self.numbers.survives(window.hazards) {
             return None;
         }
         Some(window)
     }
 
-    // The cents of a portfolio, where a part has failed or none has.
-    fn cents(&self, portfolio: usize, failed: usize) -> u32
-        requires { (portfolio < least_places) × (failed ≤ self.now.numbers.count) }
-        ensures { result ≡ renewal_cents self.now.numbers self.now.least portfolio failed }
+    // The cents of a portfolio in a state.
+    fn cents(&self, state: usize, portfolio: usize) -> u32
+        requires { portfolio < least_places }
+        ensures { result ≡ renewal_cents self.now.numbers self.now.least portfolio (failed_in self.now.numbers state) }
     {
         if portfolio == 0 {
             return 0;
         }
         let order = self.least[portfolio].unwrap_or(0) as u32;
-        self.numbers.setup + order + self.numbers.failure_charge(failed)
+        self.numbers.setup + order + self.failure_charge(state)
     }
 }
 
@@ -163,9 +112,8 @@ impl Plant for Chain {
 
     ghost lawful = { λ p.
         let n = p.numbers in
-        let l = lawful_from n p.terms p.lives p.hazards p.charges p.dearest in
         let right = table_held (arcs_of n) p.least p.right in
-        chain_lawful n p.least l right (omega (arith, p.counted, p.few)) (renewable_from n p.least l right p.renewable) };
+        chain_lawful n p.least p.ranges right (omega (arith, p.counted, p.few)) (renewable_from n p.least p.ranges right p.renewable) };
 
     fn states(&self) -> usize {
         self.states
@@ -183,10 +131,9 @@ impl Plant for Chain {
         if !self.feasible(state, portfolio) {
             return None;
         }
-        let failed = self.numbers.failed_in(state);
         Some(Bill {
-            seconds: self.numbers.dark_seconds(failed),
-            cents: self.cents(portfolio, failed),
+            seconds: self.dark_seconds(state),
+            cents: self.cents(state, portfolio),
         })
     }
 
@@ -201,9 +148,7 @@ impl Plant for Chain {
         if k > self.numbers.count {
             return None;
         }
-        let Some(window) = self.window(state, portfolio, k) else {
-            return None;
-        };
+        let window = self.window(state, portfolio, k)?;
         let weight = match k {
             0 => WHOLE - window.hazards,
             _ => window.hazard,

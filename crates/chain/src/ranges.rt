@@ -1,24 +1,19 @@
 // Whether the numbers of a chain are in range.
-ghost use Rattle.std.specs.Prelude.{◌≤◌, Decides};
+ghost use Rattle.std.specs.Prelude.{◌≡◌, ◌≤◌, Decides, MatchOption};
 ghost use Rattle.chain.specs.Limits.{most_arcs, most_charge, most_life};
 ghost use Rattle.chain.specs.Parts.{LawfulHazards, LawfulNumbers, LawfulPart, LawfulParts, arcs_of};
 ghost use Rattle.workorder.specs.Orders.{NoneDearer, max_parts};
 
 use crate::limits::{MOST_ARCS, MOST_CHARGE, MOST_DARK, MOST_HAZARD, MOST_LIFE, MOST_THRESHOLD};
 use crate::numbers::{ChainNumbers, Part};
-use workorder::MAX_PARTS;
+use workorder::{Arc, MAX_PARTS};
 
 impl Part {
     fn hazards_in_range(&self) -> bool
         requires { self.now.life ≤ most_life }
         ensures { Decides result (LawfulHazards self.now) }
     {
-        for age in 0..self.life {
-            if self.hazards[age] > MOST_HAZARD {
-                return false;
-            }
-        }
-        true
+        self.hazards[..self.life].iter().all(|hazard| *hazard <= MOST_HAZARD)
     }
 
     pub fn in_range(&self) -> bool
@@ -39,24 +34,14 @@ impl ChainNumbers {
         requires { self.now.count ≤ max_parts }
         ensures { Decides result (LawfulParts self.now) }
     {
-        for i in 0..self.count {
-            if !self.parts[i].in_range() {
-                return false;
-            }
-        }
-        true
+        self.parts().iter().all(|part| part.in_range())
     }
 
     fn arcs_in_range(&self) -> bool
         requires { self.now.arc_count ≤ most_arcs }
         ensures { Decides result (NoneDearer most_charge (arcs_of self.now)) }
     {
-        for i in 0..self.arc_count {
-            if self.arcs[i].cents > MOST_CHARGE {
-                return false;
-            }
-        }
-        true
+        self.arcs[..self.arc_count].iter().all(|arc| arc.cents <= MOST_CHARGE)
     }
 
     pub fn in_range(&self) -> bool
@@ -69,5 +54,30 @@ impl ChainNumbers {
             return false;
         }
         self.parts_in_range() && self.arcs_in_range()
+    }
+}
+
+// Numbers that are all in range, on the way to a chain.
+#[derive(Clone, Copy)]
+pub(crate) struct InRange {
+    pub(crate) numbers: ChainNumbers,
+    ghost lawful: { LawfulNumbers numbers },
+}
+
+impl InRange {
+    pub(crate) fn new(numbers: ChainNumbers) -> Option<InRange>
+        ensures { MatchOption result (LawfulNumbers numbers → ⊥) (λ r. r.numbers ≡ numbers) }
+    {
+        if !numbers.in_range() {
+            return None;
+        }
+        Some(InRange { numbers })
+    }
+
+    // The arcs that there are, without what lies beyond them.
+    pub(crate) fn arcs(&self) -> &[Arc]
+        ensures { result.now ≡ arcs_of self.now.numbers }
+    {
+        &self.numbers.arcs[..self.numbers.arc_count]
     }
 }

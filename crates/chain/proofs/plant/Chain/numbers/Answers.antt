@@ -1,5 +1,5 @@
 use Rattle.chain.proofs.Instance.{some_chain}
-use Rattle.chain.specs.LawsLemmas.{lawful_from, renewable_from}
+use Rattle.chain.specs.LawsLemmas.{renewable_from}
 use Rattle.chain.proofs.Meaning.{chain_laws, figures}
 use Rattle.chain.proofs.plant.Chain.numbers.Goals as goal
 use Rattle.chain.specs.Parts.{arcs_of}
@@ -10,7 +10,7 @@ pub returns : goal.returns
 returns c =
     let p = c.args.self.now in
     let n = p.numbers in
-    let l = lawful_from n p.terms p.lives p.hazards p.charges p.dearest in
+    let l = p.ranges in
     let right = table_held (arcs_of n) p.least p.right in
     record {
       value = refl;

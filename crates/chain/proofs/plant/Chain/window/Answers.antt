@@ -16,11 +16,11 @@ decided c =
     let inside : s < all_states n = omega (arith, p.counted) in
     let listed : x < all_portfolios n = omega (arith, c.portfolio_count.ensures.value) in
     let order : is_some (least_order p.least x) ≡ true = c.is_none.ensures ∙ ap not c.if-is_none.false in
-    let sum : c.in-Some.window.hazards ≡ hazard_sum n s x = c.in-Some.ensures.1.all in
-    survival_decides n p.least s x inside listed (sym c.failure_renewed.ensures ∙ c.if-not-failure_renewed.false) c.in-Some.ensures.0 order ∙ ap (survives n) (sym sum) ∙ sym c.survives.ensures
+    let sum : c.in_ok-window.window.hazards ≡ hazard_sum n s x = c.in_ok-window.ensures.1.all in
+    survival_decides n p.least s x inside listed (sym c.failure_renewed.ensures ∙ c.if-not-failure_renewed.false) c.in_ok-window.ensures.0 order ∙ ap (survives n) (sym sum) ∙ sym c.survives.ensures
 
 pub returns-then-not-survives : goal.returns-then-not-survives
 returns-then-not-survives c = decided (goal.at.returns-then-not-survives c).After-survives ∙ c.if-not-survives.true
 
 pub returns : goal.returns
-returns c = (decided (goal.at.returns c).After-survives ∙ c.if-not-survives.false, c.in-Some.ensures.1)
+returns c = (decided (goal.at.returns c).After-survives ∙ c.if-not-survives.false, c.in_ok-window.ensures.1)
