@@ -1,5 +1,6 @@
 -- The limits of a chain, as src/limits.rt has them for the code.
 use Rattle.std.specs.Prelude.{ℕ, ◌+◌, ◌*◌}
+use Rattle.interface.specs.Limits.{most_charge as any_charge, most_threshold as any_threshold}
 use Rattle.workorder.specs.Orders.{max_parts}
 
 abbrev pub most_life : ℕ
@@ -7,14 +8,14 @@ most_life = 20
 
 -- in ten-thousandths
 abbrev pub most_threshold : ℕ
-most_threshold = 10000
+most_threshold = any_threshold
 
 abbrev pub most_hazard : ℕ
 most_hazard = 10000
 
 -- the largest setup, alarm, surplus or arc, in cents
 abbrev pub most_charge : ℕ
-most_charge = 1000000
+most_charge = any_charge
 
 abbrev pub most_dark : ℕ
 most_dark = 10000

@@ -3,7 +3,7 @@ use Rattle.std.specs.Prelude.{◌≡◌, ℕ, ◌+◌, ◌-◌, ◌*◌, ◌/◌
 use Rattle.chain.specs.Numbering.{entry_of_table, state_inside}
 use Rattle.chain.specs.Radix.{digit, number, digit_of_number, number_of_digits}
 use Rattle.chain.specs.Sums.{every_decides, over_alike}
-use Rattle.chain.specs.Over.{Entries, entry, every, product}
+use Rattle.chain.specs.Over.{entry, every, product}
 use Rattle.chain.specs.Parts.{LivesInRange, LawfulTerms, life}
 use Rattle.chain.specs.States.{Aged, SameState, WithoutLoss, age_in, all_states, failed_in, number_of, possible, state_at, state_in, state_with, table_of}
 use Rattle.chain.specs.declared.numbers.ChainNumbers.{ChainNumbers}

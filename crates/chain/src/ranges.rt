@@ -13,7 +13,9 @@ impl Part {
         requires { self.now.life ≤ most_life }
         ensures { Decides result (LawfulHazards self.now) }
     {
-        self.hazards[..self.life].iter().all(|hazard| *hazard <= MOST_HAZARD)
+        self.hazards[..self.life]
+            .iter()
+            .all(|hazard| *hazard <= MOST_HAZARD)
     }
 
     pub fn in_range(&self) -> bool
@@ -41,7 +43,9 @@ impl ChainNumbers {
         requires { self.now.arc_count ≤ most_arcs }
         ensures { Decides result (NoneDearer most_charge (arcs_of self.now)) }
     {
-        self.arcs[..self.arc_count].iter().all(|arc| arc.cents <= MOST_CHARGE)
+        self.arcs[..self.arc_count]
+            .iter()
+            .all(|arc| arc.cents <= MOST_CHARGE)
     }
 
     pub fn in_range(&self) -> bool

@@ -19,7 +19,12 @@ pub(crate) struct Window {
 impl Chain {
     // The window with this portfolio in this state; absent exactly when a part at its life is not renewed.
     // Each turn takes the age of one part from the state's number, and puts the age a window later into the next one's.
-    pub(crate) fn coming_window(&self, state: usize, portfolio: usize, asked: usize) -> Option<Window>
+    pub(crate) fn coming_window(
+        &self,
+        state: usize,
+        portfolio: usize,
+        asked: usize,
+    ) -> Option<Window>
         ensures { MatchOption result (worn_renewed self.now.numbers state portfolio ≡ false) (λ w. (worn_renewed self.now.numbers state portfolio ≡ true) × ComesTo self.now.numbers state portfolio asked w) }
     {
         let mut rest = state / (self.numbers.count + 1);

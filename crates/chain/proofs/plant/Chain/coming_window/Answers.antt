@@ -1,4 +1,4 @@
-use Rattle.std.proofs.Common.{◌≡◌, ℕ, ◌+◌, ◌*◌, ◌/◌, ◌%◌, get_or, sym, ap, ◌∙◌, arith}
+use Rattle.std.proofs.Common.{◌≡◌, ℕ, ◌+◌, ◌*◌, ◌/◌, get_or, sym, ap, ◌∙◌, arith}
 use Rattle.chain.proofs.Places.{hazard_at, life_at}
 use Rattle.chain.proofs.Turns.{Next, SoFar, next_unfailed, number_fits, one_more, stuck, total_fits, width_fits}
 use Rattle.chain.proofs.plant.Chain.coming_window.Goals as goal

@@ -4,10 +4,8 @@ use Rattle.chain.proofs.plant.Chain.new.Goals as goal
 use Rattle.chain.proofs.plant.Chain.new.Goals.{Else-not-renewable}
 use Rattle.chain.specs.Chains.{Renewable, Unrenewable}
 use Rattle.chain.specs.Made.{Made}
-use Rattle.chain.specs.Parts.{arcs_of}
 use Rattle.chain.specs.declared.numbers.ChainNumbers.{ChainNumbers}
 use Rattle.std.proofs.lemmas.Bool.Decides.{when_true}
-use Rattle.workorder.specs.Orders.{LeastTable}
 
 made : (c : goal.Else-not-renewable) → Made c.in_ok-ranged.ranged.numbers c.least_work_orders-least.result
 made c =
