@@ -3,7 +3,7 @@ use Rattle.std.proofs.Common.{◌≡◌, ℕ, ◌+◌, ◌-◌, ◌*◌, ◌^◌
 use Rattle.chain.specs.LawsLemmas.{lives_in_range}
 use Rattle.chain.specs.Numbering.{lives_few, lives_more, number_few, state_inside, states_fit}
 use Rattle.chain.specs.Radix.{number, number_step}
-use Rattle.chain.specs.RoundTrips.{number_absent, number_there}
+use Rattle.chain.specs.RoundTrips.{number_absent, number_found}
 use Rattle.chain.specs.Limits.{most_life}
 use Rattle.chain.specs.Over.{entry, product}
 use Rattle.chain.specs.Parts.{LawfulNumbers, life}
@@ -42,7 +42,7 @@ module _ (n : ChainNumbers) (st : ChainState) where
       number_absent n st (λ aged. let same = entry_at k in let here = aged (k + 1) (omega arith) (omega arith) in none (omega arith) (omega arith))
 
   pub all_counted : (total width : ℕ) → Counted n st n.count total width → st.failed ≤ n.count → Some ((n.count + 1) * total + st.failed) ≡ number_of n st
-  all_counted total width so inside = number_there n st total inside so.aged so.older
+  all_counted total width so inside = number_found n st total inside so.aged so.older
 
   -- the numbers stay small
   module _ (lawful : LawfulNumbers n) where

@@ -1,6 +1,6 @@
 -- A chain as a plant. The table has the least cents of a work order for each portfolio.
-use Rattle.std.specs.Prelude.{◌≡◌, ℕ, ◌+◌, ◌-◌, ◌<◌, ◌≤◌, Bool, true, cond, ◌&&◌, List, map, is_some, None, Option, ◌==◌, nat_le, nat_lt, slice_index_or}
-use Rattle.chain.specs.Over.{over_parts}
+use Rattle.std.specs.Prelude.{◌≡◌, ℕ, ◌+◌, ◌-◌, ◌<◌, ◌≤◌, Bool, true, false, cond, ◌&&◌, List, map, is_some, Some, None, Option, ◌==◌, nat_le, nat_lt, slice_index_or}
+use Rattle.chain.specs.Over.{Entries, over_parts}
 use Rattle.chain.specs.Parts.{arcs_of, hazard, part_of}
 use Rattle.chain.specs.Portfolios.{FailureRenewed, WornRenewed, all_portfolios, everything, failure_renewed, start_age, worn_renewed}
 use Rattle.chain.specs.States.{all_states, failed_in, state_with}
@@ -37,6 +37,11 @@ least_order table x = slice_index_or table x None
 
 abbrev pub chain_feasible : ChainNumbers → List (Option ℕ) → ℕ → ℕ → Bool
 chain_feasible n table s x = (nat_lt s (all_states n) && nat_lt x (all_portfolios n)) && ((failure_renewed n s x && worn_renewed n s x) && (is_some (least_order table x) && survives n (hazard_sum n s x)))
+
+-- The ages at which the parts start the window; there are none exactly when the pair is not feasible.
+abbrev pub Starts : ChainNumbers → List (Option ℕ) → ℕ → ℕ → Option (List ℕ) → Type 0
+Starts n table s x None = chain_feasible n table s x ≡ false
+Starts n table s x (Some starts) = (chain_feasible n table s x ≡ true) × Entries (start_age n s x) n.count starts
 
 -- In cents: alarm and surplus when part f has failed.
 abbrev pub failure_charge : ChainNumbers → ℕ → ℕ

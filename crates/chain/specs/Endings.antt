@@ -1,12 +1,12 @@
 -- The outcomes of a chain, as a list.
-use Rattle.std.specs.Prelude.{◌≡◌, ℕ, zero, suc, ◌+◌, ◌-◌, ◌<◌, ◌≤◌, true, cond, List, [], ◌∷◌, ◌++◌, map, length, Some, None, Option, ◌==◌, nat_lt, refl}
+use Rattle.std.specs.Prelude.{◌≡◌, ℕ, zero, suc, ◌+◌, ◌-◌, ◌*◌, ◌<◌, ◌≤◌, true, cond, List, [], ◌∷◌, ◌++◌, map, length, Some, None, Option, ◌==◌, nat_lt, refl}
 use Rattle.chain.specs.Numbering.{BelowLives, state_inside}
 use Rattle.chain.specs.Sums.{over_alike}
 use Rattle.chain.specs.Chains.{chain_feasible, chain_model, hazards_at, outcome_after}
-use Rattle.chain.specs.Over.{over_parts}
-use Rattle.chain.specs.Parts.{hazard}
+use Rattle.chain.specs.Over.{Entries, entry, over_parts, product}
+use Rattle.chain.specs.Parts.{hazard, life}
 use Rattle.chain.specs.Portfolios.{start_age}
-use Rattle.chain.specs.States.{all_states}
+use Rattle.chain.specs.States.{all_states, state_with}
 use Rattle.chain.specs.Windows.{ComesTo}
 use Rattle.chain.specs.declared.numbers.ChainNumbers.{ChainNumbers}
 use Rattle.chain.specs.declared.windows.Window.{Window}
@@ -61,6 +61,23 @@ module _ (n : ChainNumbers) (start : ℕ → ℕ) where
   pub outcomes_inside : BelowLives n start → Inside (all_states n) (map (outcome_after n start) (range_with_len 0 (n.count + 1)))
   outcomes_inside below = inside_counting (outcome_after n start) 0 (n.count + 1) (all_states n) (λ k _ less. next_inside k below (omega arith))
 
+  -- a table of the start ages gives the same outcomes
+  pub outcome_alike : (xs : List ℕ) (k : ℕ) → Entries start n.count xs → k ≤ n.count → outcome_after n (entry xs) k ≡ outcome_after n start k
+  outcome_alike xs k entries most = λ i. record { next = next i; weight = weight i }
+    where
+      next : state_with n (λ i. entry xs i + 1) k ≡ state_with n (λ i. start i + 1) k
+      next = ap (λ z. (n.count + 1) * z + k) (over_alike _ _ n.count (λ i some l. ap (λ z. (z + 1 - 1) * product (life n) (i - 1)) (entries i some l)))
+
+      all : hazards_at n (entry xs) ≡ hazards_at n start
+      all = over_alike _ _ n.count (λ i some l. ap (hazard n i) (entries i some l))
+
+      weight : cond (k == 0) (whole - hazards_at n (entry xs)) (hazard n k (entry xs k)) ≡ cond (k == 0) (whole - hazards_at n start) (hazard n k (start k))
+      weight =
+          elim (cases_eq k 0) [
+            | inl z ↦ rw (eq-eqb k 0 z) (ap (λ h. whole - h) all)
+            | inr z ↦ rw (ne_eqb k 0 z) (ap (hazard n k) (entries k (omega arith) most))
+          ]
+
 module _ (n : ChainNumbers) (s x k : ℕ) (w : Window) (is : ComesTo n s x k w) where
   -- what the window comes to is what its outcomes are made of
   pub next_at : w.next + k ≡ (outcome_after n (start_age n s x) k).next
@@ -90,3 +107,14 @@ outcome_past n table s x k past =
       | inl e ↦ rw e (sym (nth_counting (outcome_after n (start_age n s x)) (n.count + 1) k ∙ cond-false (nat_lt k (n.count + 1)) (Some (outcome_after n (start_age n s x) k)) None (le-ltb k (n.count + 1) (omega arith))))
       | inr e ↦ rw e
     ]
+
+-- outcome k of a table of the start ages is outcome k of the plant
+pub outcome_listed : (n : ChainNumbers) (table : List (Option ℕ)) (s x k : ℕ) (xs : List ℕ) (r : Option Outcome) → chain_feasible n table s x ≡ true → Entries (start_age n s x) n.count xs → r ≡ cond (nat_lt k (n.count + 1)) (Some (outcome_after n (entry xs) k)) None → r ≡ slice_get (outcomes_of (chain_model n table) s x) k
+outcome_listed n table s x k xs r test entries is = rw test (is ∙ same ∙ sym (nth_counting (outcome_after n (start_age n s x)) (n.count + 1) k))
+  where
+    same : cond (nat_lt k (n.count + 1)) (Some (outcome_after n (entry xs) k)) None ≡ cond (nat_lt k (n.count + 1)) (Some (outcome_after n (start_age n s x) k)) None
+    same =
+        elim (cases_lt k (n.count + 1)) [
+          | inl h ↦ rw (lt-ltb k (n.count + 1) h) (ap Some (outcome_alike n (start_age n s x) xs k entries (omega arith)))
+          | inr h ↦ rw (le-ltb k (n.count + 1) h)
+        ]

@@ -7,7 +7,7 @@ use Rattle.chain.specs.Sums.{product_positive}
 use Rattle.chain.specs.Chains.{Feasible, Renewable, RenewableBy, chain_bill, chain_feasible, chain_model, chain_outcomes, dark_seconds, failure_charge, least_order, outcome_after}
 use Rattle.chain.specs.Limits.{most_charge, most_dark}
 use Rattle.chain.specs.Over.{product}
-use Rattle.chain.specs.Parts.{LawfulNumbers, LivesInRange, arcs_of, life}
+use Rattle.chain.specs.Parts.{ChargesInRange, HazardsInRange, LawfulNumbers, LawfulTerms, LivesInRange, arcs_of, life}
 use Rattle.chain.specs.Portfolios.{everything, start_age}
 use Rattle.chain.specs.States.{all_states, failed_in}
 use Rattle.chain.specs.declared.numbers.ChainNumbers.{ChainNumbers}
@@ -23,6 +23,10 @@ use Rattle.std.proofs.Common.{inl, inr, arith}
 
 pub lives_in_range : (n : ChainNumbers) → LawfulNumbers n → LivesInRange n
 lives_in_range n l i some most = (l.parts i some most).0
+
+-- numbers in range, part by part
+pub lawful_from : (n : ChainNumbers) → LawfulTerms n → LivesInRange n → HazardsInRange n → ChargesInRange n → NoneDearer most_charge (arcs_of n) → LawfulNumbers n
+lawful_from n terms lives hazards charges dear = record { terms = terms; parts = λ i some most. (lives i some most, charges i some most, λ age below. hazards i age (some, most, below)); arcs = dear }
 
 value_few : (r : Option ℕ) (m : ℕ) → AtMost m r → unwrap_or r 0 ≤ m
 value_few None m l = omega arith

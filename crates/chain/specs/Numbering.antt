@@ -1,6 +1,6 @@
 -- The numbers of states.
 use Rattle.std.specs.Prelude.{◌≡◌, ℕ, ◌+◌, ◌-◌, ◌*◌, ◌/◌, ◌%◌, ◌^◌, ◌<◌, ◌≤◌, cond, List, length, nat_lt, slice_index}
-use Rattle.chain.specs.Radix.{number, number_below}
+use Rattle.chain.specs.Radix.{number, number_below, number_step}
 use Rattle.chain.specs.Sums.{product_at_most, product_more}
 use Rattle.std.proofs.lemmas.Nat.{mul-le, mul-add-lt}
 use Rattle.std.proofs.lemmas.List.FromFn.{fill_by_all, get_or-map-range_with_len}
@@ -42,6 +42,12 @@ number_few n d k terms lives below inside =
     let within = number_below (life n) d k below in
     omega (arith, lives_few n k terms lives inside)
 
+-- the digit of one part more, as a loop adds it
+pub number_more : (n : ChainNumbers) (xs : List ℕ) (k t w : ℕ) → w ≡ product (life n) k → t ≡ number (life n) (entry xs) k → t + slice_index xs k * w ≡ number (life n) (entry xs) (k + 1)
+number_more n xs k t w wide so_far =
+    let less : k + 1 - 1 ≡ k = omega arith in
+    number_step (life n) (entry xs) k t w (slice_index xs k) so_far wide (ap (λ z. slice_index xs z) (sym less))
+
 -- a number by the digits of the parts and a failed part is a state
 pub state_inside : (n : ChainNumbers) (d : ℕ → ℕ) (f : ℕ) → BelowLives n d → f ≤ n.count → (n.count + 1) * number (life n) d n.count + f < all_states n
 state_inside n d f below inside =
@@ -73,3 +79,8 @@ entry_of_table n f i few some most =
     let back : i - 1 + 1 ≡ i = omega arith in
     let inside : i - 1 < n.count = omega arith in
     get_or-map-range_with_len (λ k. cond (nat_lt k n.count) (f (k + 1)) 0) 0 max_parts (i - 1) (i - 1) 0 (omega arith) (omega arith) ∙ cond-true (nat_lt (i - 1) n.count) (f (i - 1 + 1)) 0 (lt-ltb (i - 1) n.count inside) ∙ ap f back
+
+pub read_table : (n : ChainNumbers) (f : ℕ → ℕ) (xs : List ℕ) (k : ℕ) → n.count ≤ max_parts → k < n.count → xs ≡ table_of n f → slice_index xs k ≡ f (k + 1)
+read_table n f xs k few inside is =
+    let less : k + 1 - 1 ≡ k = omega arith in
+    ap (λ z. slice_index z k) is ∙ ap (λ z. slice_index (table_of n f) z) (sym less) ∙ entry_of_table n f (k + 1) few (omega arith) (omega arith)

@@ -37,9 +37,15 @@ LawfulTerms n = ((1 ≤ n.count) × (n.count ≤ max_parts)) × (n.threshold ≤
 abbrev pub LawfulParts : ChainNumbers → Type 0
 LawfulParts n = (i : ℕ) → 1 ≤ i → i ≤ n.count → LawfulPart (part_of n i)
 
--- What the ranges of the parts say of the lives.
+-- What the ranges of the parts say of the lives, of the hazards below them, and of surplus and dark.
 abbrev pub LivesInRange : ChainNumbers → Type 0
 LivesInRange n = (i : ℕ) → 1 ≤ i → i ≤ n.count → (1 ≤ life n i) × (life n i ≤ most_life)
+
+abbrev pub HazardsInRange : ChainNumbers → Type 0
+HazardsInRange n = (i age : ℕ) → (1 ≤ i) × (i ≤ n.count) × (age < life n i) → hazard n i age ≤ most_hazard
+
+abbrev pub ChargesInRange : ChainNumbers → Type 0
+ChargesInRange n = (i : ℕ) → 1 ≤ i → i ≤ n.count → ((part_of n i).surplus ≤ most_charge) × ((part_of n i).dark ≤ most_dark)
 
 -- All numbers are in range.
 pub record LawfulNumbers (n : ChainNumbers) : Type 0 where

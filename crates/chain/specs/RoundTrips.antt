@@ -3,7 +3,7 @@ use Rattle.std.specs.Prelude.{◌≡◌, ℕ, ◌+◌, ◌-◌, ◌*◌, ◌/◌
 use Rattle.chain.specs.Numbering.{entry_of_table, state_inside}
 use Rattle.chain.specs.Radix.{digit, number, digit_of_number, number_of_digits}
 use Rattle.chain.specs.Sums.{every_decides, over_alike}
-use Rattle.chain.specs.Over.{entry, every, product}
+use Rattle.chain.specs.Over.{Entries, entry, every, product}
 use Rattle.chain.specs.Parts.{LivesInRange, LawfulTerms, life}
 use Rattle.chain.specs.States.{Aged, SameState, WithoutLoss, age_in, all_states, failed_in, number_of, possible, state_at, state_in, state_with, table_of}
 use Rattle.chain.specs.declared.numbers.ChainNumbers.{ChainNumbers}
@@ -109,8 +109,15 @@ module _ (n : ChainNumbers) (terms : LawfulTerms n) (lives : LivesInRange n) whe
   without_loss = record { back = back; forth = forth }
 
 -- the number that the code gives
-pub number_there : (n : ChainNumbers) (st : ChainState) (t : ℕ) → st.failed ≤ n.count → Aged n st → t ≡ number (life n) (λ j. entry st.ages j - 1) n.count → Some ((n.count + 1) * t + st.failed) ≡ number_of n st
-number_there n st t inside aged is =
+pub number_there : (n : ChainNumbers) (st : ChainState) (xs : List ℕ) (r : ℕ) → st.failed ≤ n.count → Aged n st → Entries (λ i. entry st.ages i - 1) n.count xs → r ≡ state_with n (λ i. entry xs i + 1) st.failed → Some r ≡ number_of n st
+number_there n st xs r inside aged entries is =
+    let less : (i : ℕ) → 1 ≤ i → i ≤ n.count → (entry xs i + 1 - 1) * product (life n) (i - 1) ≡ (entry st.ages i - 1) * product (life n) (i - 1) = λ i some most. let e = entries i some most in let same : entry xs i + 1 - 1 ≡ entry st.ages i - 1 = omega arith in ap (λ z. z * product (life n) (i - 1)) same in
+    let may_be : possible n st ≡ true = and_from (nat_le st.failed n.count) _ (le-leb st.failed n.count inside) ((aged_decides n st).1 aged) in
+    rw may_be (ap Some (is ∙ ap (λ z. (n.count + 1) * z + st.failed) (over_alike _ _ n.count less)))
+
+-- the number that the code gives, by the number of the ages
+pub number_found : (n : ChainNumbers) (st : ChainState) (t : ℕ) → st.failed ≤ n.count → Aged n st → t ≡ number (life n) (λ j. entry st.ages j - 1) n.count → Some ((n.count + 1) * t + st.failed) ≡ number_of n st
+number_found n st t inside aged is =
     let may_be : possible n st ≡ true = and_from (nat_le st.failed n.count) _ (le-leb st.failed n.count inside) ((aged_decides n st).1 aged) in
     rw may_be (ap (λ z. Some ((n.count + 1) * z + st.failed)) is)
 
