@@ -1,5 +1,5 @@
 -- The outcomes of a pair, as a list.
-use Rattle.std.specs.Prelude.{◌≡◌, ℕ, zero, suc, ◌+◌, ◌*◌, ◌/◌, ◌%◌, ◌<◌, ◌≤◌, Bool, true, false, cond, ltb, List, [], ◌∷◌, map, length, Some, None, sum_by, nat_lt, refl}
+use Rattle.std.specs.Prelude.{◌≡◌, ℕ, zero, suc, ◌+◌, ◌*◌, ◌/◌, ◌%◌, ◌<◌, ◌≤◌, Bool, true, false, cond, ltb, List, [], ◌∷◌, map, length, Some, None, sum_by, Option, nat_lt, refl}
 use Rattle.std.proofs.Common.{ap, sym, ◌∙◌, ⊎_elim, add_assoc, add-suc, add-zero, zero-add, zero-mul, mul-zero, mul-suc, mul-add, add-mul, mod-eq_of_lt, add-one, arith}
 use Rattle.std.proofs.Math.Nat.{mul-add-mod_self_left, mul-add-div, div-eq_of_lt}
 use Rattle.std.specs.List.{slice_get, range_with_len}
@@ -11,7 +11,7 @@ use Rattle.interface.specs.declared.plant.Outcome.{Outcome}
 use Rattle.interface.specs.Plants.{outcomes_of, weights, Inside}
 use Rattle.pair.specs.declared.numbers.PairNumbers.{PairNumbers}
 use Rattle.pair.specs.declared.states.Grades.{Grades}
-use Rattle.pair.specs.Pairs.{moved_by, pair_feasible, outcome_by, pair_model}
+use Rattle.pair.specs.Pairs.{moved_by, pair_feasible, rows_of, outcome_by, pair_model}
 use Rattle.pair.specs.States.{all_states, grades_in, grades_of}
 use Rattle.pair.specs.Units.{over_grades, hundredths}
 
@@ -105,3 +105,14 @@ some_outcome n s x k w g test some weighs = rw test (inside (nat_lt k (all_state
         let same : g ≡ grades_in n k = cc in
         ap (λ v. Some (record { next = k; weight = v })) (weighs ∙ ap (λ h. hundredths n.one (moved_by n s x).one h.one * hundredths n.two (moved_by n s x).two h.two) same)
     inside false e = absurd (let z : ◌≡◌ {A = ℕ} 0 1 = cc in omega arith)
+
+some_only : {X : Type 0} (b : Bool) (x y : X) → Some x ≡ cond b (Some y) None → (b ≡ true) × (x ≡ y)
+some_only true x y e = (refl, cc)
+some_only false x y e = let z : ◌≡◌ {A = ℕ} 0 1 = cc in absurd (omega arith)
+
+-- the same by the rows that the state allows
+pub outcome_listed : (n : PairNumbers) (s x k : ℕ) (g : Grades) (r : Option Outcome) → Some g ≡ rows_of n s x → r ≡ cond (nat_lt k (all_states n)) (Some (outcome_by n g k)) None → r ≡ slice_get (outcomes_of (pair_model n) s x) k
+outcome_listed n s x k g r moved is =
+    let only = some_only (pair_feasible n s x) g (moved_by n s x) moved in
+    let test : pair_feasible n s x ≡ true = only.0 in
+    rw test (is ∙ ap (λ h. cond (nat_lt k (all_states n)) (Some (outcome_by n h k)) None) only.1 ∙ sym (nth_counting (outcome_by n (moved_by n s x)) (all_states n) k))

@@ -1,5 +1,5 @@
 -- A pair: two units that are renewed together or apart, after each inspection.
-use Rattle.std.specs.Prelude.{◌≡◌, ℕ, ◌+◌, ◌*◌, ◌<◌, ◌≤◌, Bool, true, false, cond, ◌&&◌, List, map, ◌==◌, nat_le, nat_lt}
+use Rattle.std.specs.Prelude.{◌≡◌, ℕ, ◌+◌, ◌*◌, ◌<◌, ◌≤◌, Bool, true, false, cond, ◌&&◌, List, map, Some, None, Option, ◌==◌, nat_le, nat_lt}
 use Rattle.std.specs.List.{range_with_len}
 use Rattle.interface.specs.Plants.{Model}
 use Rattle.interface.specs.declared.plant.Bill.{Bill}
@@ -31,6 +31,10 @@ all_attended n s x = attended n.one (renews_one x) (grades_in n s).one && attend
 
 abbrev pub pair_feasible : PairNumbers → ℕ → ℕ → Bool
 pair_feasible n s x = (nat_lt s (all_states n) && nat_lt x all_portfolios) && (all_attended n s x && nat_le n.threshold (survival n s x))
+
+-- The grades by whose rows the units move, absent exactly where the state does not allow the portfolio.
+abbrev pub rows_of : PairNumbers → ℕ → ℕ → Option Grades
+rows_of n s x = cond (pair_feasible n s x) (Some (moved_by n s x)) None
 
 -- Each unit has its grade.
 abbrev pub HasGrades : PairNumbers → Grades → Type 0
