@@ -1,1 +1,1 @@
-pub mod Multiples
+pub mod ByPlaces

@@ -1,6 +1,5 @@
 -- What a plant means, and the laws that every plant keeps.
 use Rattle.std.specs.Prelude.{◌≡◌, ℕ, ◌+◌, ◌<◌, ◌≤◌, Bool, true, cond, List, [], ◌∷◌, length, Some, None, Option}
-use Rattle.std.specs.List.{slice_get}
 use Rattle.interface.specs.declared.plant.Bill.{Bill}
 use Rattle.interface.specs.declared.plant.Outcome.{Outcome}
 use Rattle.interface.specs.Limits.{most_states, most_portfolios, most_outcomes, most_seconds, most_cents, whole}

@@ -1,5 +1,5 @@
 -- Rows of signed whole numbers, in thousandths: what amounts mean. All is done place by place.
-use Rattle.std.specs.Prelude.{ℕ, max, List, [], ◌∷◌, map, replicate, ℤ, pos, ◌+ℤ◌, ◌-ℤ◌, ◌*ℤ◌, unsigned_abs}
+use Rattle.std.specs.Prelude.{ℕ, max, List, [], ◌∷◌, replicate, ℤ, pos, ◌+ℤ◌, ◌-ℤ◌, ◌*ℤ◌, unsigned_abs}
 use Rattle.std.specs.Int.{int_div_euclid}
 use Rattle.interface.specs.Limits.{whole}
 

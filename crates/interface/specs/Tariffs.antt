@@ -1,9 +1,9 @@
 -- What a tariff means, and the laws that every tariff keeps.
-use Rattle.std.specs.Prelude.{◌≡◌, ℕ, ◌+◌, ◌*◌, ◌≤◌, Bool, true, false, cond, ◌⊎◌, List, [], ◌∷◌, length, Some, None, Option, nat_le}
+use Rattle.std.specs.Prelude.{◌≡◌, ℕ, ◌+◌, ◌*◌, ◌≤◌, Bool, true, false, cond, ◌⊎◌, length, Some, None, Option, nat_le}
 use Rattle.interface.specs.declared.plant.Bill.{Bill}
 use Rattle.interface.specs.Limits.{most_places, most_price, most_reach, most_factor, most_seconds, most_cents}
 use Rattle.interface.specs.Plants.{LawfulBill}
-use Rattle.interface.specs.Rows.{Row, zeros, plus, minus, times, reach}
+use Rattle.interface.specs.Rows.{Row, zeros, plus, times, reach}
 
 -- The number of places, the row for one dark second, the row for one cent, and the order: whether one row is at most another.
 pub record Scale : Type 0 where

@@ -1,6 +1,6 @@
 // The limits of every plant and tariff, each named once; specs/Limits.antt has the same numbers for the contracts.
 ghost use Rattle.std.specs.Prelude.{◌≡◌};
-ghost use Rattle.interface.specs.Limits.{most_states, most_portfolios, most_outcomes, most_seconds, most_cents, most_places};
+ghost use Rattle.interface.specs.Limits.{most_states, most_portfolios, most_outcomes, most_seconds, most_cents, whole, most_charge, most_threshold, most_places, most_reach, most_factor};
 
 pub const MOST_STATES: usize = 4096;
 
@@ -25,29 +25,10 @@ pub const MOST_REACH: u64 = 1_000_000_000_000_000_000;
 // The largest number by which an amount is multiplied.
 pub const MOST_FACTOR: u32 = 10_000;
 
-// The limits of a plant's counts, of a bill and of the places of an amount.
-#[derive(Clone, Copy)]
-pub struct Limits {
-    pub states: usize,
-    pub portfolios: usize,
-    pub outcomes: usize,
-    pub seconds: u32,
-    pub cents: u32,
-    pub places: usize,
-}
-
 // The constants above are the numbers that the laws of plants and tariffs name.
-pub fn all() -> Limits
-    ensures plant { (result.states ≡ most_states) × (result.portfolios ≡ most_portfolios) × (result.outcomes ≡ most_outcomes) }
-    ensures bill { (result.seconds ≡ most_seconds) × (result.cents ≡ most_cents) }
-    ensures amount { result.places ≡ most_places }
-{
-    Limits {
-        states: MOST_STATES,
-        portfolios: MOST_PORTFOLIOS,
-        outcomes: MOST_OUTCOMES,
-        seconds: MOST_SECONDS,
-        cents: MOST_CENTS,
-        places: MOST_PLACES,
-    }
-}
+pub fn all()
+    ensures plant { (MOST_STATES ≡ most_states) × (MOST_PORTFOLIOS ≡ most_portfolios) × (MOST_OUTCOMES ≡ most_outcomes) × (WHOLE ≡ whole) }
+    ensures bill { (MOST_SECONDS ≡ most_seconds) × (MOST_CENTS ≡ most_cents) }
+    ensures described { (MOST_CHARGE ≡ most_charge) × (MOST_THRESHOLD ≡ most_threshold) }
+    ensures amount { (MOST_PLACES ≡ most_places) × (MOST_REACH ≡ most_reach) × (MOST_FACTOR ≡ most_factor) }
+{}

@@ -1,8 +1,8 @@
-// Arithmetic on the single places of amounts, for whoever writes a tariff.
-ghost use Rattle.std.specs.Prelude.{◌≡◌, ℕ, ◌+◌, ◌*◌, ◌≤◌, true, false, leb, pos, ◌+ℤ◌, ◌-ℤ◌, ◌*ℤ◌, if◌then◌else◌, nat_le, unsigned_abs};
-ghost use Rattle.std.specs.Int.{int_div_euclid};
-ghost use Rattle.std.specs.Option.{SomeIff};
-ghost use Rattle.interface.specs.Limits.{most_reach, most_factor, whole};
+// Arithmetic on the places of amounts, for whoever writes a tariff: an amount of N places is an array here, place by place.
+ghost use Rattle.std.specs.Prelude.{◌≡◌, ℕ, ◌+◌, ◌*◌, ◌≤◌, true, false, leb, if◌then◌else◌, nat_le};
+ghost use Rattle.interface.specs.Limits.{most_reach, most_factor};
+ghost use Rattle.interface.specs.Rows.{plus, minus, times, share, reach};
+ghost use Rattle.interface.specs.Tariffs.{Answers, summable, multipliable};
 
 use crate::limits::{MOST_FACTOR, MOST_REACH, WHOLE};
 
@@ -13,57 +13,67 @@ pub fn sum_within(a: u64, b: u64) -> bool
     a <= MOST_REACH && b <= MOST_REACH - a
 }
 
-fn factor_within(factor: u32, reach: u64) -> bool
-    ensures { result ≡ (if leb factor most_factor then nat_le (factor * reach) most_reach else false) }
-{
-    factor <= MOST_FACTOR && u128::from(factor) * u128::from(reach) <= u128::from(MOST_REACH)
-}
-
 // Whether an amount of this reach may be multiplied by the factor; then so may each of its places.
 pub fn multiple_within(factor: u32, reach: u64) -> bool
     ensures test { result ≡ (if leb factor most_factor then nat_le (factor * reach) most_reach else false) }
     ensures part { (k : ℕ) → k ≤ reach → result ≡ true → factor * k ≤ most_reach }
 {
-    factor_within(factor, reach)
+    factor <= MOST_FACTOR && u128::from(factor) * u128::from(reach) <= u128::from(MOST_REACH)
 }
 
-// The sum of two places, absent exactly when their absolute values together exceed MOST_REACH.
-pub fn add(a: i64, b: i64) -> Option<i64>
-    ensures { SomeIff result (unsigned_abs a + unsigned_abs b ≤ most_reach) (a +ℤ b) }
+// The largest absolute value among the places.
+pub fn reach<const N: usize>(a: [i64; N]) -> u64
+    ensures { result ≡ reach a.entry }
 {
-    if sum_within(a.unsigned_abs(), b.unsigned_abs()) {
-        Some(a + b)
-    } else {
-        None
-    }
+    a.iter()
+        .fold(0, |most, place| most.max(place.unsigned_abs()))
 }
 
-// The difference of two places, absent as their sum is.
-pub fn subtract(a: i64, b: i64) -> Option<i64>
-    ensures { SomeIff result (unsigned_abs a + unsigned_abs b ≤ most_reach) (a -ℤ b) }
+// The sum of two amounts, absent exactly when their reaches together exceed MOST_REACH.
+pub fn sum<const N: usize>(mut a: [i64; N], b: [i64; N]) -> Option<[i64; N]>
+    ensures { Answers (λ u. u) result (summable a.entry b.entry) (plus a.entry b.entry) }
 {
-    if sum_within(a.unsigned_abs(), b.unsigned_abs()) {
-        Some(a - b)
-    } else {
-        None
-    }
-}
-
-// A multiple of a place, absent exactly when it would exceed MOST_REACH.
-pub fn multiply(factor: u32, a: i64) -> Option<i64>
-    ensures { SomeIff result (factor * unsigned_abs a ≤ most_reach) (pos factor *ℤ a) }
-{
-    let size = u128::from(factor) * u128::from(a.unsigned_abs());
-    if size > u128::from(MOST_REACH) {
+    if !sum_within(reach(a), reach(b)) {
         return None;
     }
-    let size = size as i64;
-    Some(if a < 0 { -size } else { size })
+    for (i, place) in a.iter_mut().enumerate() {
+        *place += b[i];
+    }
+    Some(a)
 }
 
-// A ten-thousandth of a place, rounded down.
-pub fn share(a: i64) -> i64
-    ensures { result ≡ int_div_euclid a (pos whole) }
+// The difference of two amounts, absent as their sum is.
+pub fn difference<const N: usize>(mut a: [i64; N], b: [i64; N]) -> Option<[i64; N]>
+    ensures { Answers (λ u. u) result (summable a.entry b.entry) (minus a.entry b.entry) }
 {
-    a.div_euclid(i64::from(WHOLE))
+    if !sum_within(reach(a), reach(b)) {
+        return None;
+    }
+    for (i, place) in a.iter_mut().enumerate() {
+        *place -= b[i];
+    }
+    Some(a)
+}
+
+// A multiple of an amount, absent exactly when the factor exceeds MOST_FACTOR or the multiple's reach would exceed MOST_REACH.
+pub fn multiple<const N: usize>(factor: u32, mut a: [i64; N]) -> Option<[i64; N]>
+    ensures { Answers (λ u. u) result (multipliable factor a.entry) (times factor a.entry) }
+{
+    if !multiple_within(factor, reach(a)) {
+        return None;
+    }
+    for place in a.iter_mut() {
+        *place *= i64::from(factor);
+    }
+    Some(a)
+}
+
+// A ten-thousandth of each place, rounded down.
+pub fn share<const N: usize>(mut a: [i64; N]) -> [i64; N]
+    ensures { result ≡ share a.entry }
+{
+    for place in a.iter_mut() {
+        *place = place.div_euclid(i64::from(WHOLE));
+    }
+    a
 }

@@ -1,12 +1,24 @@
 ghost use Rattle.std.specs.Prelude.{◌≡◌, length};
 ghost use Rattle.std.specs.List.{slice_get};
 ghost use Rattle.interface.specs.Plants.{Model, Lawful, bill_of, outcomes_of};
+ghost use Rattle.interface.specs.Tariffs.{billable};
+
+use crate::limits::{MOST_CENTS, MOST_SECONDS};
 
 // What one window costs: dark seconds and cents.
 #[derive(Clone, Copy, PartialEq, Eq, Debug)]
 pub struct Bill {
     pub seconds: u32,
     pub cents: u32,
+}
+
+impl Bill {
+    // Whether the bill is within the lawful ranges.
+    pub fn lawful(self) -> bool
+        ensures { result ≡ billable self }
+    {
+        self.seconds <= MOST_SECONDS && self.cents <= MOST_CENTS
+    }
 }
 
 // One way that a window can end: the next state, and its weight in ten-thousandths.

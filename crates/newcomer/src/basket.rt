@@ -5,7 +5,6 @@ ghost use Rattle.std.proofs.Common.{arith, lit≤, rules};
 ghost use Rattle.std.proofs.lemmas.Int.{ints};
 ghost use Rattle.newcomer.specs.Sums.{sum_total, sum_trans, sum_shift};
 
-use interface::limits::{MOST_CENTS, MOST_SECONDS};
 use interface::places;
 use interface::plant::Bill;
 use interface::tariff::Tariff;
@@ -20,6 +19,28 @@ pub struct Basket {
     pub seconds: i64,
     pub cents: i64,
     pub fees: i64,
+}
+
+// The places in an array, for the arithmetic that all amounts share.
+impl From<[i64; 3]> for Basket {
+    ghost from_gives = { λ xs a. a.seconds ∷ a.cents ∷ a.fees ∷ [] ≡ xs };
+
+    fn from(places: [i64; 3]) -> Basket {
+        let [seconds, cents, fees] = places;
+        Basket {
+            seconds,
+            cents,
+            fees,
+        }
+    }
+}
+
+impl From<Basket> for [i64; 3] {
+    ghost from_gives = { λ a xs. xs ≡ a.seconds ∷ a.cents ∷ a.fees ∷ [] };
+
+    fn from(a: Basket) -> [i64; 3] {
+        [a.seconds, a.cents, a.fees]
+    }
 }
 
 // The tariff itself has no numbers of its own.
@@ -79,7 +100,7 @@ impl Tariff for ByBasket {
     }
 
     fn price(&self, bill: Bill) -> Option<Basket> {
-        if bill.seconds > MOST_SECONDS || bill.cents > MOST_CENTS {
+        if !bill.lawful() {
             return None;
         }
         Some(Basket {
@@ -94,51 +115,23 @@ impl Tariff for ByBasket {
     }
 
     fn sum(&self, a: Basket, b: Basket) -> Option<Basket> {
-        if !places::sum_within(self.reach(a), self.reach(b)) {
-            return None;
-        }
-        Some(Basket {
-            seconds: places::add(a.seconds, b.seconds)?,
-            cents: places::add(a.cents, b.cents)?,
-            fees: places::add(a.fees, b.fees)?,
-        })
+        places::sum(a.into(), b.into()).map(Basket::from)
     }
 
     fn difference(&self, a: Basket, b: Basket) -> Option<Basket> {
-        if !places::sum_within(self.reach(a), self.reach(b)) {
-            return None;
-        }
-        Some(Basket {
-            seconds: places::subtract(a.seconds, b.seconds)?,
-            cents: places::subtract(a.cents, b.cents)?,
-            fees: places::subtract(a.fees, b.fees)?,
-        })
+        places::difference(a.into(), b.into()).map(Basket::from)
     }
 
     fn multiple(&self, factor: u32, a: Basket) -> Option<Basket> {
-        if !places::multiple_within(factor, self.reach(a)) {
-            return None;
-        }
-        Some(Basket {
-            seconds: places::multiply(factor, a.seconds)?,
-            cents: places::multiply(factor, a.cents)?,
-            fees: places::multiply(factor, a.fees)?,
-        })
+        places::multiple(factor, a.into()).map(Basket::from)
     }
 
     fn share(&self, a: Basket) -> Basket {
-        Basket {
-            seconds: places::share(a.seconds),
-            cents: places::share(a.cents),
-            fees: places::share(a.fees),
-        }
+        Basket::from(places::share(a.into()))
     }
 
     fn reach(&self, a: Basket) -> u64 {
-        a.seconds
-            .unsigned_abs()
-            .max(a.cents.unsigned_abs())
-            .max(a.fees.unsigned_abs())
+        places::reach(a.into())
     }
 
     fn place(&self, a: Basket, i: usize) -> Option<i64> {

@@ -28,6 +28,7 @@ impl Lamp {
     pub fn new(failing: u32) -> Option<Lamp>
         ensures { MatchOption result (whole < failing) (λ l. (l.failing ≡ failing) × (failing ≤ whole)) }
     {
+        // A test first: in a closure under `then` the lamp's invariant would need a clause of its own.
         if failing > WHOLE {
             return None;
         }
@@ -63,12 +64,10 @@ impl Plant for Lamp {
     }
 
     fn bill(&self, state: usize, portfolio: usize) -> Option<Bill> {
-        if !self.feasible(state, portfolio) {
-            return None;
-        }
         let seconds = if state == DARK { 60 } else { 0 };
         let cents = if portfolio == REPLACE { 500 } else { 0 };
-        Some(Bill { seconds, cents })
+        self.feasible(state, portfolio)
+            .then_some(Bill { seconds, cents })
     }
 
     fn outcome_count(&self, state: usize, portfolio: usize) -> usize {
@@ -80,19 +79,17 @@ impl Plant for Lamp {
     }
 
     fn outcome(&self, state: usize, portfolio: usize, k: usize) -> Option<Outcome> {
-        if !self.feasible(state, portfolio) {
-            return None;
-        }
-        match k {
-            0 => Some(Outcome {
-                next: LIT,
-                weight: WHOLE - self.failing,
-            }),
-            1 => Some(Outcome {
-                next: DARK,
-                weight: self.failing,
-            }),
-            _ => None,
-        }
+        let lit = Outcome {
+            next: LIT,
+            weight: WHOLE - self.failing,
+        };
+        let dark = Outcome {
+            next: DARK,
+            weight: self.failing,
+        };
+        self.feasible(state, portfolio)
+            .then_some([lit, dark])?
+            .get(k)
+            .copied()
     }
 }

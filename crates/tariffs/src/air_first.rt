@@ -1,11 +1,10 @@
 // The air-first tariff: dark seconds in the first place and cents in the second; the first place decides.
-ghost use Rattle.std.specs.Prelude.{[], ◌∷◌, refl};
+ghost use Rattle.std.specs.Prelude.{◌≡◌, [], ◌∷◌, refl};
 ghost use Rattle.tariffs.specs.AirFirst.{air_first_scale};
 ghost use Rattle.std.proofs.Common.{arith, lit≤, rules};
 ghost use Rattle.std.proofs.lemmas.Int.{ints};
 ghost use Rattle.tariffs.specs.OrdersLemmas.{first_total, first_trans, first_shift};
 
-use interface::limits::{MOST_CENTS, MOST_SECONDS};
 use interface::places;
 use interface::plant::Bill;
 use interface::tariff::Tariff;
@@ -14,10 +13,29 @@ use interface::tariff::Tariff;
 const THOUSAND: i64 = 1000;
 
 // An amount of two places, in thousandths of a second and of a cent.
-#[derive(Clone, Copy, PartialEq, Eq, Debug)]
+// An amount is at most another as its fields are compared in this order.
+#[derive(Clone, Copy, PartialEq, Eq, PartialOrd, Ord, Debug)]
 pub struct DarkThenCost {
     pub dark: i64,
     pub cost: i64,
+}
+
+// The places in an array, for the arithmetic that all amounts share.
+impl From<[i64; 2]> for DarkThenCost {
+    ghost from_gives = { λ xs a. a.dark ∷ a.cost ∷ [] ≡ xs };
+
+    fn from(places: [i64; 2]) -> DarkThenCost {
+        let [dark, cost] = places;
+        DarkThenCost { dark, cost }
+    }
+}
+
+impl From<DarkThenCost> for [i64; 2] {
+    ghost from_gives = { λ a xs. xs ≡ a.dark ∷ a.cost ∷ [] };
+
+    fn from(a: DarkThenCost) -> [i64; 2] {
+        [a.dark, a.cost]
+    }
 }
 
 #[derive(Clone, Copy, PartialEq, Eq, Debug)]
@@ -57,7 +75,7 @@ impl Tariff for AirFirst {
     }
 
     fn price(&self, bill: Bill) -> Option<DarkThenCost> {
-        if bill.seconds > MOST_SECONDS || bill.cents > MOST_CENTS {
+        if !bill.lawful() {
             return None;
         }
         Some(DarkThenCost {
@@ -67,48 +85,27 @@ impl Tariff for AirFirst {
     }
 
     fn at_most(&self, a: DarkThenCost, b: DarkThenCost) -> bool {
-        a.dark < b.dark || a.dark == b.dark && a.cost <= b.cost
+        a <= b
     }
 
     fn sum(&self, a: DarkThenCost, b: DarkThenCost) -> Option<DarkThenCost> {
-        if !places::sum_within(self.reach(a), self.reach(b)) {
-            return None;
-        }
-        Some(DarkThenCost {
-            dark: places::add(a.dark, b.dark)?,
-            cost: places::add(a.cost, b.cost)?,
-        })
+        places::sum(a.into(), b.into()).map(DarkThenCost::from)
     }
 
     fn difference(&self, a: DarkThenCost, b: DarkThenCost) -> Option<DarkThenCost> {
-        if !places::sum_within(self.reach(a), self.reach(b)) {
-            return None;
-        }
-        Some(DarkThenCost {
-            dark: places::subtract(a.dark, b.dark)?,
-            cost: places::subtract(a.cost, b.cost)?,
-        })
+        places::difference(a.into(), b.into()).map(DarkThenCost::from)
     }
 
     fn multiple(&self, factor: u32, a: DarkThenCost) -> Option<DarkThenCost> {
-        if !places::multiple_within(factor, self.reach(a)) {
-            return None;
-        }
-        Some(DarkThenCost {
-            dark: places::multiply(factor, a.dark)?,
-            cost: places::multiply(factor, a.cost)?,
-        })
+        places::multiple(factor, a.into()).map(DarkThenCost::from)
     }
 
     fn share(&self, a: DarkThenCost) -> DarkThenCost {
-        DarkThenCost {
-            dark: places::share(a.dark),
-            cost: places::share(a.cost),
-        }
+        DarkThenCost::from(places::share(a.into()))
     }
 
     fn reach(&self, a: DarkThenCost) -> u64 {
-        a.dark.unsigned_abs().max(a.cost.unsigned_abs())
+        places::reach(a.into())
     }
 
     fn place(&self, a: DarkThenCost, i: usize) -> Option<i64> {
@@ -121,14 +118,8 @@ impl Tariff for AirFirst {
 
     fn with_place(&self, a: DarkThenCost, i: usize, value: i64) -> Option<DarkThenCost> {
         match i {
-            0 => Some(DarkThenCost {
-                dark: value,
-                cost: a.cost,
-            }),
-            1 => Some(DarkThenCost {
-                dark: a.dark,
-                cost: value,
-            }),
+            0 => Some(DarkThenCost { dark: value, ..a }),
+            1 => Some(DarkThenCost { cost: value, ..a }),
             _ => None,
         }
     }

@@ -8,7 +8,6 @@ ghost use Rattle.std.proofs.lemmas.Bool.Decides.{nat_tests};
 ghost use Rattle.tariffs.specs.OrdersLemmas.{first_total, first_trans, first_shift};
 
 use crate::refusal::Unpriced;
-use interface::limits::{MOST_CENTS, MOST_SECONDS};
 use interface::places;
 use interface::plant::Bill;
 use interface::tariff::Tariff;
@@ -20,9 +19,27 @@ pub const MOST_RATE: u32 = 1000;
 const THOUSAND: i64 = 1000;
 
 // An amount of one place, in thousandths of a cent.
-#[derive(Clone, Copy, PartialEq, Eq, Debug)]
+#[derive(Clone, Copy, PartialEq, Eq, PartialOrd, Ord, Debug)]
 pub struct Cost {
     pub thousandths: i64,
+}
+
+// The places in an array, for the arithmetic that all amounts share.
+impl From<[i64; 1]> for Cost {
+    ghost from_gives = { λ xs a. a.thousandths ∷ [] ≡ xs };
+
+    fn from(places: [i64; 1]) -> Cost {
+        let [thousandths] = places;
+        Cost { thousandths }
+    }
+}
+
+impl From<Cost> for [i64; 1] {
+    ghost from_gives = { λ a xs. xs ≡ a.thousandths ∷ [] };
+
+    fn from(a: Cost) -> [i64; 1] {
+        [a.thousandths]
+    }
 }
 
 #[derive(Clone, Copy)]
@@ -79,7 +96,7 @@ impl Tariff for Priced {
     }
 
     fn price(&self, bill: Bill) -> Option<Cost> {
-        if bill.seconds > MOST_SECONDS || bill.cents > MOST_CENTS {
+        if !bill.lawful() {
             return None;
         }
         let seconds = i64::from(bill.seconds) * (THOUSAND * i64::from(self.rate));
@@ -90,44 +107,27 @@ impl Tariff for Priced {
     }
 
     fn at_most(&self, a: Cost, b: Cost) -> bool {
-        a.thousandths <= b.thousandths
+        a <= b
     }
 
     fn sum(&self, a: Cost, b: Cost) -> Option<Cost> {
-        if !places::sum_within(self.reach(a), self.reach(b)) {
-            return None;
-        }
-        Some(Cost {
-            thousandths: places::add(a.thousandths, b.thousandths)?,
-        })
+        places::sum(a.into(), b.into()).map(Cost::from)
     }
 
     fn difference(&self, a: Cost, b: Cost) -> Option<Cost> {
-        if !places::sum_within(self.reach(a), self.reach(b)) {
-            return None;
-        }
-        Some(Cost {
-            thousandths: places::subtract(a.thousandths, b.thousandths)?,
-        })
+        places::difference(a.into(), b.into()).map(Cost::from)
     }
 
     fn multiple(&self, factor: u32, a: Cost) -> Option<Cost> {
-        if !places::multiple_within(factor, self.reach(a)) {
-            return None;
-        }
-        Some(Cost {
-            thousandths: places::multiply(factor, a.thousandths)?,
-        })
+        places::multiple(factor, a.into()).map(Cost::from)
     }
 
     fn share(&self, a: Cost) -> Cost {
-        Cost {
-            thousandths: places::share(a.thousandths),
-        }
+        Cost::from(places::share(a.into()))
     }
 
     fn reach(&self, a: Cost) -> u64 {
-        a.thousandths.unsigned_abs()
+        places::reach(a.into())
     }
 
     fn place(&self, a: Cost, i: usize) -> Option<i64> {

@@ -1,0 +1,6 @@
+use Rattle.std.proofs.Common.{◌≡◌, ◌++◌, take, drop}
+use Rattle.interface.specs.Rows.{share}
+use Rattle.interface.proofs.places.share.Given as goal
+
+abbrev pub invariant-loop-place : goal.invariant-loop-place
+invariant-loop-place g l = l.place-items ≡ take l.place-index (share l.fn.a) ++ drop l.place-index l.fn.a
