@@ -1,6 +1,7 @@
 -- The laws of a cut at the first of a byte.
-use Rattle.std.proofs.Common.{◌≡◌, ℕ, ◌+◌, ◌-◌, ◌<◌, Bool, true, false, cond, eqb, List, [], ◌∷◌, ◌++◌, length, get_or, take, drop, Some, None, Option, sym, refl, ap, ◌∙◌, subst, arith}
-use native.Mathlib.Nat.{sub-zero}
+use Rattle.std.proofs.Common.{◌≡◌, ℕ, ◌+◌, ◌-◌, ◌<◌, Bool, true, false, cond, eqb, List, [], ◌∷◌, ◌++◌, length, get_or, take, drop, Some, None, Option, ◌≢◌, sym, refl, ap, ◌∙◌, subst, arith}
+use Rattle.std.specs.List.{AllWithin, HoldsAt}
+use Rattle.std.specs.Option.{MatchOption}
 use Rattle.std.proofs.lemmas.Bool.{eq-eqb, ne_eqb, eqb-true, eqb-false, cond-true, cond-false}
 use Rattle.std.proofs.ByRecursion.{All-from_get_or}
 use Rattle.std.proofs.lemmas.List.{drop_more, get_or-take, length-take-le, take-append-drop, take_rest}
@@ -28,6 +29,11 @@ pub cut_some : (b : ℕ) (p q : List ℕ) → Free b p → cut_at b (p ++ (b ∷
 cut_some b [] q h = cond-true _ _ _ (eq-eqb b b refl)
 cut_some b (x ∷ p) q h = cond-false _ _ _ (ne_eqb x b h.0) ∙ ap (onto x) (cut_some b p q h.1)
 
+-- what a search for the first b finds
+pub found_from : (b : ℕ) (xs : List ℕ) (r : Option ℕ) → MatchOption r (AllWithin (λ x. x ≢ b) xs 0 (length xs)) (λ i. (i < length xs) × HoldsAt (λ x. x ≡ b) xs i × AllWithin (λ x. x ≢ b) xs 0 i) → FoundFirst b xs r
+found_from b xs None h = λ k l. h k 0 (omega arith) l
+found_from b xs (Some i) h = (h.0, h.1 0, λ k l. h.2 k 0 (omega arith) l)
+
 -- b stands at no place of a text
 pub free_places : (b : ℕ) (xs : List ℕ) → FoundFirst b xs None → Free b xs
 free_places b xs h = All-from_get_or (λ x. x ≡ b → ⊥) xs 0 h
@@ -44,9 +50,8 @@ cut_here b xs i h =
     ap (cut_at b) whole ∙ cut_some b (take i xs) (drop (i + 1) xs) (free_before b xs i h.0 h.2)
 
 -- the parts, as slices of the text
-pub parts_here : (b : ℕ) (xs : List ℕ) (i : ℕ) → FoundFirst b xs (Some i) → Some (take (i - 0) xs, take (length xs - (i + 1)) (drop (i + 1) xs)) ≡ cut_at b xs
+pub parts_here : (b : ℕ) (xs : List ℕ) (i : ℕ) → FoundFirst b xs (Some i) → Some (take i xs, take (length xs - (i + 1)) (drop (i + 1) xs)) ≡ cut_at b xs
 parts_here b xs i h =
-    let front : take (i - 0) xs ≡ take i xs = ap (λ n. take n xs) (sub-zero i) in
     let back : take (length xs - (i + 1)) (drop (i + 1) xs) ≡ drop (i + 1) xs = take_rest xs (i + 1) in
     let here = cut_here b xs i h in
     cc

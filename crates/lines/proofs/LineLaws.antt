@@ -1,20 +1,18 @@
 -- The laws of the line at the front of a text.
-use Rattle.std.proofs.Common.{◌≡◌, ℕ, ◌+◌, ◌<◌, ◌≤◌, Bool, true, false, cond, ◌&&◌, eqb, leb, ◌⊎◌, List, [], ◌∷◌, ◌++◌, length, get_or, drop, Some, None, Decides, Option, sym, refl, ap, ◌∙◌, subst, inl, inr, ⊎_elim, arith}
-use Rattle.std.specs.List.{AllByRecursion}
+use Rattle.std.proofs.Common.{◌≡◌, ℕ, ◌+◌, ◌<◌, ◌≤◌, Bool, true, false, cond, ◌&&◌, eqb, leb, ◌⊎◌, List, [], ◌∷◌, ◌++◌, length, Some, None, Decides, Option, sym, refl, ap, ◌∙◌, subst, inl, inr, ⊎_elim, arith}
+use Rattle.std.specs.List.{AllByRecursion, list_all}
 use Rattle.std.proofs.ByRecursion.{All-append, All-weaker, Decides-by_and}
-use Rattle.std.proofs.lemmas.List.{append_assoc, length-append, at_drop_more}
+use Rattle.std.proofs.lemmas.List.{append_assoc, length-append}
 use Rattle.std.proofs.lemmas.Bool.{leb-true, le-leb, ne_eqb, eqb-false, and_from, and_parts, cond-true, cond-false}
 use Rattle.std.proofs.lemmas.Bool.Decides.{Decides-and}
 use Rattle.lines.specs.Cuts.{cut_at, Free, CutFirst}
 use Rattle.lines.specs.Line.{line_end, equals_sign, longest_line, lowest_byte, highest_byte, bad_line, ends_early, Said, pair, fault, printable, all_printable, keyed, line_of, line_before, line_at, behind, left_by, rest_at, Printable, Begins, ReadsAs}
 use Rattle.lines.proofs.CutLaws.{cut_law, cut_none, cut_some}
 
--- the loop over the bytes of a line
-pub printable_good : (xs : List ℕ) (i : ℕ) → i < length xs → true ≡ printable (get_or xs i 0) → all_printable (drop i xs) ≡ all_printable (drop (i + 1) xs)
-printable_good xs i l e = at_drop_more all_printable xs i 0 l ∙ ap (λ t. t && all_printable (drop (i + 1) xs)) (sym e)
-
-pub printable_bad : (xs : List ℕ) (i : ℕ) → i < length xs → false ≡ printable (get_or xs i 0) → all_printable (drop i xs) ≡ false
-printable_bad xs i l e = at_drop_more all_printable xs i 0 l ∙ ap (λ t. t && all_printable (drop (i + 1) xs)) (sym e)
+-- the test of each byte of a line
+pub printable_all : (xs : List ℕ) → list_all printable xs ≡ all_printable xs
+printable_all [] = refl
+printable_all (x ∷ xs) = ap (λ t. printable x && t) (printable_all xs)
 
 printable_decides : (b : ℕ) → Decides (printable b) (Printable b)
 printable_decides b = Decides-and _ _ (leb-true lowest_byte b, le-leb lowest_byte b) (leb-true b highest_byte, le-leb b highest_byte)

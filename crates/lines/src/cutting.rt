@@ -1,30 +1,18 @@
 // Cuts of a text at a byte, and its fields between commas.
 ghost use Rattle.std.specs.Prelude.{◌≡◌};
-ghost use Rattle.lines.specs.Cuts.{FoundFirst, parts, cut_at, CutFirst};
+ghost use Rattle.lines.specs.Cuts.{parts, cut_at, CutFirst};
 ghost use Rattle.lines.specs.Fields.{fields, further, FirstOf, NextOf, StillOf};
 
 // The byte between two fields.
 pub const COMMA: u8 = b',';
-
-// The place of the first `sep`.
-fn find(text: &[u8], sep: u8) -> Option<usize>
-    ensures { FoundFirst sep text.now result }
-{
-    for (i, b) in text.iter().enumerate() {
-        if *b == sep {
-            return Some(i);
-        }
-    }
-    None
-}
 
 // The bytes before the first `sep` and those behind it, absent where there is no `sep`.
 pub fn split_once<'a>(text: &'a [u8], sep: u8) -> Option<(&'a [u8], &'a [u8])>
     ensures value { parts result ≡ cut_at sep text.now }
     ensures law { CutFirst sep text.now (parts result) }
 {
-    let i = find(text, sep)?;
-    Some((&text[0..i], &text[i + 1..]))
+    let i = text.iter().position(|b| *b == sep)?;
+    Some((&text[..i], &text[i + 1..]))
 }
 
 // The first field of a text, and what follows its comma where there is one.
@@ -68,13 +56,8 @@ impl<'a> Fields<'a> {
         ensures value { NextOf (further self.old.rest) result (further self.new.rest) }
         ensures law { StillOf self.old.rest }
     {
-        match self.rest {
-            Some(text) => {
-                let FirstField { first, rest } = first_field(text);
-                self.rest = rest;
-                Some(first)
-            }
-            None => None,
-        }
+        let FirstField { first, rest } = first_field(self.rest?);
+        self.rest = rest;
+        Some(first)
     }
 }

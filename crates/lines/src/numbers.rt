@@ -5,8 +5,6 @@ ghost use Rattle.lines.specs.Numeral.{needless_zero, pushed, numeral, negated, s
 // The bytes of a number: digits, and a minus in front.
 pub const ZERO_DIGIT: u8 = b'0';
 
-pub const NINE_DIGIT: u8 = b'9';
-
 pub const MINUS_SIGN: u8 = b'-';
 
 pub const BASE: u64 = 10;
@@ -19,22 +17,20 @@ const MOST_SIGNED: u64 = i64::MAX as u64;
 fn has_needless_zero(text: &[u8]) -> bool
     ensures { result ≡ needless_zero text.now }
 {
-    text.len() > 1 && text[0] == ZERO_DIGIT
+    matches!(text, [ZERO_DIGIT, _, ..])
 }
 
 // One digit more behind `value`, absent where `digit` is none or the number would be above `most`.
 fn push_digit(value: u64, digit: u8, most: u64) -> Option<u64>
     ensures { result ≡ pushed value digit most }
 {
-    if digit < ZERO_DIGIT || digit > NINE_DIGIT {
+    if !digit.is_ascii_digit() {
         return None;
     }
-    let grown = BASE as u128 * value as u128 + (digit - ZERO_DIGIT) as u128;
-    if grown <= most as u128 {
-        Some(grown as u64)
-    } else {
-        None
-    }
+    let grown = value
+        .checked_mul(BASE)?
+        .checked_add(u64::from(digit - ZERO_DIGIT))?;
+    (grown <= most).then_some(grown)
 }
 
 // The number that `text` writes, absent where it writes none or one above `most`.
@@ -59,7 +55,7 @@ fn negate(magnitude: u64) -> Option<i64>
 {
     match magnitude {
         0 => None,
-        _ => Some(-((magnitude - 1) as i64) - 1),
+        _ => 0_i64.checked_sub_unsigned(magnitude),
     }
 }
 
@@ -68,9 +64,8 @@ pub fn signed(text: &[u8]) -> Option<i64>
     ensures value { result ≡ signed_numeral text.now }
     ensures law { ReadsSigned text.now result }
 {
-    if text.is_empty() || text[0] != MINUS_SIGN {
-        let value = number(text, MOST_SIGNED)?;
-        return Some(value as i64);
+    match text {
+        [MINUS_SIGN, digits @ ..] => negate(number(digits, MOST_NEGATED)?),
+        _ => Some(number(text, MOST_SIGNED)? as i64),
     }
-    negate(number(&text[1..], MOST_NEGATED)?)
 }

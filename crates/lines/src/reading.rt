@@ -20,7 +20,8 @@ pub const BAD_LINE: u8 = 1;
 // Refused: the text ends before the line does.
 pub const ENDS_EARLY: u8 = 2;
 
-// A line as a view of its text: the key and the value, or the number of the refusal.
+// A line as a view of its text: the key and the value, or the number of the refusal. It is no Result, and the fault no
+// enum: every reader of the house takes a line in this form, and a fault is its number.
 #[derive(Clone, Copy)]
 pub enum Line<'a> {
     Pair(&'a [u8], &'a [u8]),
@@ -37,18 +38,13 @@ pub struct Read<'a> {
 fn is_printable(b: u8) -> bool
     ensures { result ≡ printable b }
 {
-    b >= LOWEST_BYTE && b <= HIGHEST_BYTE
+    (LOWEST_BYTE..=HIGHEST_BYTE).contains(&b)
 }
 
 fn all_printable(bytes: &[u8]) -> bool
     ensures { result ≡ all_printable bytes.now }
 {
-    for b in bytes {
-        if !is_printable(*b) {
-            return false;
-        }
-    }
-    true
+    bytes.iter().all(|b| is_printable(*b))
 }
 
 // The line in `bytes`, which hold no line end.
@@ -74,22 +70,18 @@ fn first_line<'a>(text: &'a [u8]) -> FirstLine<'a>
     ensures line { said result.line ≡ line_at text.now }
     ensures rest { result.rest.now ≡ rest_at text.now }
 {
-    match split_once(text, LINE_END) {
-        Some((front, behind)) => match parse_line(front) {
-            Line::Pair(key, value) => FirstLine {
-                line: Line::Pair(key, value),
-                rest: behind,
-            },
-            Line::Fault(number) => FirstLine {
-                line: Line::Fault(number),
-                rest: text,
-            },
-        },
-        None => FirstLine {
+    let Some((front, behind)) = split_once(text, LINE_END) else {
+        return FirstLine {
             line: Line::Fault(ENDS_EARLY),
             rest: text,
-        },
-    }
+        };
+    };
+    let line = parse_line(front);
+    let rest = match line {
+        Line::Pair(_, _) => behind,
+        Line::Fault(_) => text,
+    };
+    FirstLine { line, rest }
 }
 
 // The lines of a text that are still to be read.
