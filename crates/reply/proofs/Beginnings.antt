@@ -1,5 +1,6 @@
 -- A request that was read from its first line on.
-use Rattle.std.proofs.Common.{◌≡◌, ℕ, List, Ok, Err, Result, refl, ap, ◌∙◌, subst, inl, inr, MatchResult}
+use Rattle.std.proofs.Common.{◌≡◌, ℕ, List, Ok, Err, Result, vec_items, Vec, refl, ap, ◌∙◌, subst, inl, inr}
+use Rattle.std.specs.declared.alloc.Global.{Global}
 use Rattle.reading.specs.declared.rules.ReadRefusal.{ReadRefusal}
 use Rattle.chain.specs.Chains.{chain_model}
 use Rattle.chain.specs.declared.plant.Chain.{Chain}
@@ -9,14 +10,16 @@ use Rattle.pair.specs.Pairs.{pair_model}
 use Rattle.pair.specs.declared.plant.Pair.{Pair}
 use Rattle.pairtext.specs.Texts.{read_pair, answered as pair_numbers}
 use Rattle.pairtext.specs.Writing.{BeginsPair, ReadsPair}
-use Rattle.reply.specs.declared.answer.Reply.{Reply}
+use Rattle.reply.specs.declared.answer.Unanswered.{Unanswered}
+use Rattle.reply.specs.declared.answer.Unanswered.TheVariants.{Refused, NoMemory}
 use Rattle.reply.specs.Laws.{Tail, SomeRequest}
-use Rattle.reply.specs.Replies.{AtChain, AtPair, RepliesToChain, RepliesToPair}
+use Rattle.reply.specs.Replies.{Reply, Answered, AtChain, AtPair, RepliesToChain, RepliesToPair}
 
 -- what holds of a reply holds of what follows from it, and so it does of want of memory
-pub follows : {Y V W : Type 0} {P Q : Reply → Type 0} (q : Result Reply Y) → ((r : Reply) → P r → Q r) → (V → W) → MatchResult q P (λ _. V) → MatchResult q Q (λ _. W)
-follows (Ok r) f g h = f r h
-follows (Err y) f g h = g h
+pub follows : {V W : Type 0} {P Q : Reply → Type 0} (q : Result (Vec ℕ Global) Unanswered) → ((r : Reply) → P r → Q r) → (V → W) → Answered P V q → Answered Q W q
+follows (Ok v) f g h = f (Ok (vec_items v)) h
+follows (Err (Refused e)) f g h = f (Err e) h
+follows (Err NoMemory) f g h = g h
 
 module _ (text start : List ℕ) (lines : ℕ) (is : start ≡ text) (none : lines ≡ 0) (rest : List ℕ) (place : ℕ) where
   pub from_chain : (a : Result Chain ReadRefusal) → CountedChain start lines rest place a → ReadsFrom start (chain_numbers a) rest → (r : Reply) → AtChain rest place a r → RepliesToChain text r

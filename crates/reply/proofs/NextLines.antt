@@ -1,5 +1,5 @@
 -- From line to line behind the plant of a request.
-use Rattle.std.proofs.Common.{◌≡◌, ℕ, ◌+◌, List, ◌++◌, IfOk, Ok, Err, codes, Result, refl, ap, ◌∙◌, subst, arith, MatchResult}
+use Rattle.std.proofs.Common.{◌≡◌, ℕ, ◌+◌, List, ◌++◌, Ok, Err, codes, Result, refl, ap, ◌∙◌, subst, arith}
 use Rattle.std.proofs.lemmas.List.{append-nil}
 use Rattle.interface.specs.Plants.{Model}
 use Rattle.lines.specs.Line.{Said, pair, fault, line_at, rest_at, taken}
@@ -11,9 +11,8 @@ use Rattle.request.specs.declared.sweeps.SweepsLine.{SweepsLine}
 use Rattle.request.specs.declared.tariff.TariffChoice.{TariffChoice}
 use Rattle.request.specs.Requests.{value_due, after, at_line, on_line, tariff_of, sweeps_of, read_tariff, read_sweeps, read_end}
 use Rattle.request.specs.Writing.{tariff_line, ReadsTariff, ReadsSweeps, ReadsEnd}
-use Rattle.reply.specs.declared.answer.Reply.{Reply}
 use Rattle.reply.specs.Laws.{Tail}
-use Rattle.reply.specs.Replies.{AtEnd, AtSweeps, AtTariff, BehindPlant}
+use Rattle.reply.specs.Replies.{Reply, AtEnd, AtSweeps, AtTariff, BehindPlant}
 
 -- a line that was put to use was taken from the text
 used : {A : Type 0} (key : List ℕ) (f : List ℕ → Result A Rule) (n : ℕ) (a : A) (s : Said) → Ok a ≡ at_line n (after (value_due key s) f) → taken s ≡ 1
@@ -43,11 +42,7 @@ module _ (m : Model) (text : List ℕ) (place : ℕ) (c : TariffChoice) (read : 
       let ends : read_end rest' line' ≡ read_end (rest_at rest) (line + 1) = ap (λ t. read_end t line') left' ∙ ap (read_end (rest_at rest)) next' in
       at_sweeps (Ok s) swept (subst (λ a. AtEnd m c s a reply) (e ∙ ends) h)
 
--- the end of a request that is as it should be: its reply, or want of memory
-pub at_last : {Y : Type 0} (q : Result Reply Y) {P Q : Reply → Type 0} {W : Type 0} → ((r : Reply) → P r → Q r) → W → IfOk q P → MatchResult q Q (λ _. W)
-at_last (Ok r) f w h = f r h
-at_last (Err y) f w h = w
-
+-- what followed the plant
 pub tail : (text rest rest' : List ℕ) (c : TariffChoice) (s : SweepsLine) → ReadsTariff text (Ok c) rest → ReadsSweeps rest (Ok s.count) rest' → ReadsEnd rest' (Ok tt) → Tail text
 tail text rest rest' c s first second last =
     let t = (first c rest).0 (refl, refl) in

@@ -79,7 +79,7 @@ module _ (p : Plan) (j : ℕ) (space space' : List ℕ) where
         simp (same, least, most)
 
     -- so there is a line, and it is not refused
-    pub not_absent : AnswersLine p j space space' (Ok None) → ⊥
+    not_absent : AnswersLine p j space space' (Ok None) → ⊥
     not_absent h = absent (slice_get (plan_lines p) j) refl (h.answer ∙ ap (λ t. line_answer t (slice_get (plan_lines p) j) space) levelled)
       where
         absent : (o : Option (List ℕ)) → slice_get (plan_lines p) j ≡ o → Ok None ≡ line_answer true o space → ⊥
@@ -90,7 +90,7 @@ module _ (p : Plan) (j : ℕ) (space space' : List ℕ) where
             tested true e = let z : ◌≡◌ {A = ℕ} 0 1 = cc in omega arith
             tested false e = let z : ◌≡◌ {A = ℕ} 0 1 = cc in omega arith
 
-    pub not_refused : (x : LineRefusal) → AnswersLine p j space space' (Err x) → Tight space (Err x) → ⊥
+    not_refused : (x : LineRefusal) → AnswersLine p j space space' (Err x) → Tight space (Err x) → ⊥
     not_refused NoSpace h t = omega (arith, t, wide)
     not_refused WrongLength h t = wrong (slice_get (plan_lines p) j) (h.answer ∙ ap (λ t. line_answer t (slice_get (plan_lines p) j) space) levelled)
       where
@@ -101,6 +101,12 @@ module _ (p : Plan) (j : ℕ) (space space' : List ℕ) where
             tested : (t : Bool) → Err WrongLength ≡ cond t (Ok (Some (length l))) (Err NoSpace) → ⊥
             tested true e = let z : ◌≡◌ {A = ℕ} 0 1 = cc in omega arith
             tested false e = let z : ◌≡◌ {A = ℕ} 0 1 = cc in omega arith
+
+    -- it is answered by its length
+    pub answered : (r : Result (Option ℕ) LineRefusal) → AnswersLine p j space space' r → Tight space r → (n : ℕ) × (r ≡ Ok (Some n))
+    answered (Ok (Some n)) h t = (n, refl)
+    answered (Ok None) h t = absurd (not_absent h)
+    answered (Err x) h t = absurd (not_refused x h t)
 
 -- a written line is put behind the others, where there is memory for it
 pub pushed : {X Y : Type 0} (r : Result X Y) (p : Plan) (j n : ℕ) (space before after : List ℕ) → Written p j space n → after ≡ cond (is_ok r) (before ++ take (n - 0) space) before → IfOk r (λ _. Pushed p j before after)

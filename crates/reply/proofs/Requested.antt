@@ -1,5 +1,5 @@
 -- Exactly the requests are answered by their plan, or by the refusal of their sweeps.
-use Rattle.std.proofs.Common.{◌≡◌, ℕ, ◌+◌, ◌≤◌, ◌⊎◌, List, [], ◌++◌, take, Ok, Err, codes, Result, sym, refl, ap, ◌∙◌, subst, inl, inr, arith, MatchResult}
+use Rattle.std.proofs.Common.{◌≡◌, ℕ, ◌+◌, ◌≤◌, ◌⊎◌, List, [], ◌++◌, take, Ok, Err, codes, Result, sym, refl, ap, ◌∙◌, subst, inl, inr, arith}
 use Rattle.std.proofs.lemmas.List.{append_assoc, append-nil}
 use Rattle.interface.specs.Plants.{Model}
 use Rattle.lines.specs.Line.{rest_at}
@@ -27,10 +27,8 @@ use Rattle.request.specs.Requests.{read_kind, read_tariff, read_sweeps, read_end
 use Rattle.request.specs.Writing.{tariff_line, RateInRange, counted}
 use Rattle.request.proofs.Written.{kind_read, tariff_read, sweeps_read, end_read}
 use Rattle.reply.specs.declared.answer.Refusal.TheVariants.{Broken, BeyondReach}
-use Rattle.reply.specs.declared.answer.Reply.{Reply}
-use Rattle.reply.specs.declared.answer.Reply.TheVariants.{Plan, Refused}
-use Rattle.reply.specs.Laws.{SomeRequest, ChainFirst, PairFirst, PlantFirst, RefusedLaw, ReplyLaw}
-use Rattle.reply.specs.Replies.{scale_of, PlansAs, BrokenBy, AtEnd, AtSweeps, AtTariff, BehindPlant, AtChain, AtPair, RepliesToChain, RepliesToPair, AtKind, RepliesTo}
+use Rattle.reply.specs.Laws.{ChainFirst, PairFirst, PlantFirst, RefusedLaw, ReplyLaw}
+use Rattle.reply.specs.Replies.{Reply, scale_of, PlansAs, BrokenBy, AtEnd, AtSweeps, AtTariff, BehindPlant, AtChain, AtPair, RepliesToChain, RepliesToPair, AtKind, RepliesTo}
 
 -- the text behind a plant as it should be, and the reply to it
 record Sound (m : Model) (text : List ℕ) (r : Reply) : Type 0 where
@@ -92,15 +90,15 @@ planned m text place r c n whole rate few h =
 
 -- a reply that is not broken, to a text that is a request then
 whole_reply : (text : List ℕ) (m : Model) (rest : List ℕ) (r : Reply) → PlantFirst text m rest → Sound m rest r → ReplyLaw text r
-whole_reply text m rest (Plan v) first s = record {
+whole_reply text m rest (Ok v) first s = record {
   plant = m;
   tariff = s.tariff;
   sweeps = s.sweeps.count;
   request = record { plant = subst (PlantFirst text m) s.whole first; rate = s.rate; few = s.few };
   plan = s.plans;
 }
-whole_reply text m rest (Refused (Broken e)) first s = absurd s.plans
-whole_reply text m rest (Refused (BeyondReach line)) first s = record {
+whole_reply text m rest (Err (Broken e)) first s = absurd s.plans
+whole_reply text m rest (Err (BeyondReach line)) first s = record {
   plant = m;
   tariff = s.tariff;
   sweeps = s.sweeps.count;
@@ -126,26 +124,26 @@ pair_of (Err x) n e = let z : ◌≡◌ {A = ℕ} 0 1 = cc in absurd (omega arit
 
 -- a request is not called broken
 module _ (text : List ℕ) (e : ReadRefusal) where
-  chain_sound : (m : Model) (c : TariffChoice) (n : ℕ) → ChainFirst text m (tariff_line c ++ number_line Sweeps n) → RateInRange c → n ≤ most_sweeps → RepliesToChain text (Refused (Broken e)) → ⊥
+  chain_sound : (m : Model) (c : TariffChoice) (n : ℕ) → ChainFirst text m (tariff_line c ++ number_line Sweeps n) → RateInRange c → n ≤ most_sweeps → RepliesToChain text (Err (Broken e)) → ⊥
   chain_sound m c n f rate few h =
       let b = (h.law f.chain.numbers (tariff_line c ++ number_line Sweeps n)).1 f.begins in
       let a = chain_of h.answer f.chain.numbers b.0 in
-      let p = planned (chain_model a.0.numbers a.0.least) h.rest h.place (Refused (Broken e)) c n b.1 rate few (subst (λ q. AtChain h.rest h.place q (Refused (Broken e))) a.1 h.replies) in
+      let p = planned (chain_model a.0.numbers a.0.least) h.rest h.place (Err (Broken e)) c n b.1 rate few (subst (λ q. AtChain h.rest h.place q (Err (Broken e))) a.1 h.replies) in
       p.1
 
-  pair_sound : (m : Model) (c : TariffChoice) (n : ℕ) → PairFirst text m (tariff_line c ++ number_line Sweeps n) → RateInRange c → n ≤ most_sweeps → RepliesToPair text (Refused (Broken e)) → ⊥
+  pair_sound : (m : Model) (c : TariffChoice) (n : ℕ) → PairFirst text m (tariff_line c ++ number_line Sweeps n) → RateInRange c → n ≤ most_sweeps → RepliesToPair text (Err (Broken e)) → ⊥
   pair_sound m c n f rate few h =
       let b = (h.law f.pair.numbers (tariff_line c ++ number_line Sweeps n)).1 f.begins in
       let a = pair_of h.answer f.pair.numbers b.0 in
-      let p = planned (pair_model a.0.numbers) h.rest h.place (Refused (Broken e)) c n b.1 rate few (subst (λ q. AtPair h.rest h.place q (Refused (Broken e))) a.1 h.replies) in
+      let p = planned (pair_model a.0.numbers) h.rest h.place (Err (Broken e)) c n b.1 rate few (subst (λ q. AtPair h.rest h.place q (Err (Broken e))) a.1 h.replies) in
       p.1
 
-  not_broken : RepliesTo text (Refused (Broken e)) → RefusedLaw text (Broken e)
+  not_broken : RepliesTo text (Err (Broken e)) → RefusedLaw text (Broken e)
   not_broken h m c n q = by_plant q.plant
     where
       by_plant : PlantFirst text m (tariff_line c ++ number_line Sweeps n) → ⊥
-      by_plant (inl f) = chain_sound m c n f q.rate q.few (subst (λ k. AtKind text k (Refused (Broken e))) (chain_kind text f.chain.numbers (tariff_line c ++ number_line Sweeps n) f.begins) h)
-      by_plant (inr f) = pair_sound m c n f q.rate q.few (subst (λ k. AtKind text k (Refused (Broken e))) (pair_kind text f.pair.numbers (tariff_line c ++ number_line Sweeps n) f.begins) h)
+      by_plant (inl f) = chain_sound m c n f q.rate q.few (subst (λ k. AtKind text k (Err (Broken e))) (chain_kind text f.chain.numbers (tariff_line c ++ number_line Sweeps n) f.begins) h)
+      by_plant (inr f) = pair_sound m c n f q.rate q.few (subst (λ k. AtKind text k (Err (Broken e))) (pair_kind text f.pair.numbers (tariff_line c ++ number_line Sweeps n) f.begins) h)
 
 -- a reply, read off its text, that is broken or to a request
 abbrev Settled : List ℕ → Reply → Type 0
@@ -170,15 +168,11 @@ by_kind text r (Err e) h = inl (e, h)
 by_kind text r (Ok kind.Chain) h = chain_settled text r h.rest h.place h.answer h.law h.replies
 by_kind text r (Ok kind.Pair) h = pair_settled text r h.rest h.place h.answer h.law h.replies
 
-reply_law : (text : List ℕ) (r : Reply) → RepliesTo text r → ReplyLaw text r
+pub reply_law : (text : List ℕ) (r : Reply) → RepliesTo text r → ReplyLaw text r
 reply_law text r h = told r h (by_kind text r (read_kind text) h)
   where
     told : (r : Reply) → RepliesTo text r → Settled text r → ReplyLaw text r
     told r h (inr l) = l
-    told (Plan v) h (inl b) = let z : ◌≡◌ {A = ℕ} 0 1 = cc b.1 in absurd (omega arith)
-    told (Refused (Broken e)) h (inl b) = not_broken text e h
-    told (Refused (BeyondReach line)) h (inl b) = let z : ◌≡◌ {A = ℕ} 0 1 = cc b.1 in absurd (omega arith)
-
-pub made_law : {Y : Type 0} (text : List ℕ) (q : Result Reply Y) → MatchResult q (RepliesTo text) (λ _. SomeRequest text) → MatchResult q (ReplyLaw text) (λ _. SomeRequest text)
-made_law text (Ok r) h = reply_law text r h
-made_law text (Err y) h = h
+    told (Ok v) h (inl b) = let z : ◌≡◌ {A = ℕ} 0 1 = cc b.1 in absurd (omega arith)
+    told (Err (Broken e)) h (inl b) = not_broken text e h
+    told (Err (BeyondReach line)) h (inl b) = let z : ◌≡◌ {A = ℕ} 0 1 = cc b.1 in absurd (omega arith)

@@ -1,5 +1,5 @@
 -- The reply in the words of the house: which texts are requests, and what they are answered with.
-use Rattle.std.specs.Prelude.{◌≡◌, ℕ, ◌≤◌, ◌⊎◌, List, ◌++◌, vec_items}
+use Rattle.std.specs.Prelude.{◌≡◌, ℕ, ◌≤◌, ◌⊎◌, List, ◌++◌, Ok, Err}
 use Rattle.interface.specs.Plants.{Model}
 use Rattle.chain.specs.Chains.{chain_model}
 use Rattle.chain.specs.declared.plant.Chain.{Chain}
@@ -14,10 +14,8 @@ use Rattle.request.specs.declared.tariff.TariffChoice.{TariffChoice}
 use Rattle.request.specs.Writing.{tariff_line, RateInRange}
 use Rattle.reply.specs.declared.answer.Refusal.{Refusal}
 use Rattle.reply.specs.declared.answer.Refusal.TheVariants.{Broken, BeyondReach}
-use Rattle.reply.specs.declared.answer.Reply.{Reply}
-use Rattle.reply.specs.declared.answer.Reply.TheVariants.{Plan, Refused}
 use Rattle.reply.specs.Plans.{PlanFor, HaltsAt}
-use Rattle.reply.specs.Replies.{scale_of}
+use Rattle.reply.specs.Replies.{Reply, scale_of}
 
 -- the text begins with that of a chain, which is this plant, and this follows
 pub record ChainFirst (text : List ℕ) (m : Model) (after : List ℕ) : Type 0 where
@@ -78,5 +76,5 @@ RefusedLaw text (BeyondReach line) = HasNoPlan text
 
 -- Exactly the requests are answered by a plan, which is then theirs, or by the refusal of their sweeps.
 abbrev pub ReplyLaw : List ℕ → Reply → Type 0
-ReplyLaw text (Plan plan) = HasPlan text (vec_items plan)
-ReplyLaw text (Refused e) = RefusedLaw text e
+ReplyLaw text (Ok plan) = HasPlan text plan
+ReplyLaw text (Err e) = RefusedLaw text e

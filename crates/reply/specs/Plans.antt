@@ -43,7 +43,3 @@ pub record Pushed (p : Plan) (j : ℕ) (before after : List ℕ) : Type 0 where
   pub line : List ℕ
   pub is : slice_get (plan_lines p) j ≡ Some line
   pub behind : after ≡ before ++ line
-
--- The text of a plan was put behind what stood before.
-abbrev pub Wrote : Model → Scale → ℕ → List ℕ → List ℕ → Type 0
-Wrote m t sweeps before after = (text : List ℕ) × PlanFor m t sweeps text × (after ≡ before ++ text)

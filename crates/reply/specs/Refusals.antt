@@ -1,5 +1,5 @@
 -- Why a request has no plan, with its number and its place.
-use Rattle.std.specs.Prelude.{ℕ}
+use Rattle.std.specs.Prelude.{ℕ, List, ◌++◌, codes, decimal}
 use Rattle.reading.specs.Rules.{number_of as rule_number}
 use Rattle.reply.specs.declared.answer.Refusal.{Refusal}
 use Rattle.reply.specs.declared.answer.Refusal.TheVariants.{Broken, BeyondReach}
@@ -12,3 +12,7 @@ number_of (BeyondReach line) = 8
 abbrev pub place_of : Refusal → ℕ
 place_of (Broken e) = e.line
 place_of (BeyondReach line) = line
+
+-- the line in which a refusal is told
+abbrev pub refusal_text : Refusal → List ℕ
+refusal_text e = codes "refused=" ++ (decimal (number_of e) ++ (codes "," ++ decimal (place_of e)))

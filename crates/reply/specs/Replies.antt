@@ -1,5 +1,6 @@
 -- What a request is answered with, from its kind to its end.
-use Rattle.std.specs.Prelude.{◌≡◌, ℕ, ◌+◌, List, Ok, Err, vec_items, Result}
+use Rattle.std.specs.Prelude.{◌≡◌, ℕ, ◌+◌, List, Ok, Err, vec_items, Result, Vec}
+use Rattle.std.specs.declared.alloc.Global.{Global}
 use Rattle.interface.specs.Plants.{Model}
 use Rattle.interface.specs.Tariffs.{Scale}
 use Rattle.tariffs.specs.AirFirst.{air_first_scale}
@@ -22,9 +23,19 @@ use Rattle.request.specs.declared.tariff.TariffChoice.TheVariants as tariff
 use Rattle.request.specs.Requests.{read_kind, read_tariff, read_sweeps, read_end}
 use Rattle.reply.specs.declared.answer.Refusal.{Refusal}
 use Rattle.reply.specs.declared.answer.Refusal.TheVariants.{Broken, BeyondReach}
-use Rattle.reply.specs.declared.answer.Reply.{Reply}
-use Rattle.reply.specs.declared.answer.Reply.TheVariants.{Plan, Refused}
+use Rattle.reply.specs.declared.answer.Unanswered.{Unanswered}
+use Rattle.reply.specs.declared.answer.Unanswered.TheVariants.{Refused, NoMemory}
 use Rattle.reply.specs.Plans.{PlanFor, HaltsAt}
+
+-- a reply: the text of a plan, or why there is none
+abbrev pub Reply : Type 0
+Reply = Result (List ℕ) Refusal
+
+-- so is a request answered, or it finds no memory, and then this holds
+abbrev pub Answered : (Reply → Type 0) → Type 0 → Result (Vec ℕ Global) Unanswered → Type 0
+Answered Replies Wanting (Ok text) = Replies (Ok (vec_items text))
+Answered Replies Wanting (Err (Refused e)) = Replies (Err e)
+Answered Replies Wanting (Err NoMemory) = Wanting
 
 -- what a tariff that a request names means
 abbrev pub scale_of : TariffChoice → Scale
@@ -38,12 +49,12 @@ NoPlan m t s (BeyondReach line) = (line ≡ s.line) × ((state : ℕ) × HaltsAt
 
 -- the plan of a plant under a tariff, or that a sweep would leave a value beyond reach
 abbrev pub PlansAs : Model → Scale → SweepsLine → Reply → Type 0
-PlansAs m t s (Plan text) = PlanFor m t s.count (vec_items text)
-PlansAs m t s (Refused e) = NoPlan m t s e
+PlansAs m t s (Ok text) = PlanFor m t s.count text
+PlansAs m t s (Err e) = NoPlan m t s e
 
 -- a request whose text breaks a rule
 abbrev pub BrokenBy : ReadRefusal → Reply → Type 0
-BrokenBy e r = r ≡ Refused (Broken e)
+BrokenBy e r = r ≡ Err (Broken e)
 
 -- after the sweeps line nothing may follow
 abbrev pub AtEnd : Model → TariffChoice → SweepsLine → Result (Unit {0}) ReadRefusal → Reply → Type 0

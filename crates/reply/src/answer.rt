@@ -1,9 +1,13 @@
-// What a request is answered with.
-ghost use Rattle.std.specs.Prelude.{◌≡◌};
-ghost use Rattle.reply.specs.Refusals.{number_of, place_of};
+// Why a request is not answered by a plan.
+ghost use Rattle.std.specs.Prelude.{◌≡◌, Some};
+ghost use Rattle.reply.specs.Refusals.{number_of, place_of, refusal_text};
+ghost use Rattle.reply.specs.declared.answer.Refusal.TheVariants.{Broken};
+ghost use Rattle.reply.specs.declared.answer.Unanswered.TheVariants.{Refused, NoMemory};
 
 use planner::refusal::Refusal as PlanRefusal;
 use reading::rules::ReadRefusal;
+use std::alloc::AllocError;
+use std::fmt;
 
 // Why a request has no plan.
 #[derive(Clone, Copy, PartialEq, Eq, Debug)]
@@ -36,9 +40,46 @@ impl Refusal {
     }
 }
 
-// The text of a plan, or why there is none.
-#[derive(Drop)]
-pub enum Reply {
-    Plan(Vec<u8>),
+// The line in which a refusal is told, without its line end.
+impl fmt::Display for Refusal {
+    ghost output = { λ e. Some (refusal_text e) };
+
+    fn fmt<W: fmt::Write>(&self, f: &mut fmt::Formatter<W>) -> fmt::Result {
+        let number = self.number();
+        let place = self.place();
+        write!(f, "refused={number},{place}")
+    }
+}
+
+// Why a request is not answered by a plan.
+#[derive(Clone, Copy, PartialEq, Eq, Debug)]
+pub enum Unanswered {
+    // It has none.
     Refused(Refusal),
+    // There is no memory for the tables and the text of its plan.
+    NoMemory,
+}
+
+impl From<Refusal> for Unanswered {
+    ghost from_gives = { λ e r. r ≡ Refused e };
+
+    fn from(refusal: Refusal) -> Unanswered {
+        Unanswered::Refused(refusal)
+    }
+}
+
+impl From<ReadRefusal> for Unanswered {
+    ghost from_gives = { λ e r. r ≡ Refused (Broken e) };
+
+    fn from(refusal: ReadRefusal) -> Unanswered {
+        Unanswered::Refused(Refusal::Broken(refusal))
+    }
+}
+
+impl From<AllocError> for Unanswered {
+    ghost from_gives = { λ _ r. r ≡ NoMemory };
+
+    fn from(_error: AllocError) -> Unanswered {
+        Unanswered::NoMemory
+    }
 }
