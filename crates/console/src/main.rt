@@ -2,39 +2,34 @@
 // with the number and the place of a refusal. What is meant for people goes to standard error.
 #![tactic(auto)]
 
-use anyhow::anyhow;
+use anyhow::bail;
 use reading::rules::Rule;
-use reply::answer::{Refusal, Reply};
+use reply::answer::{Refusal, Unanswered};
 use reply::replying::reply_to;
+use std::fmt;
 use std::io::{Read, Write};
 
-// A refusal in words.
-fn words(refusal: Refusal) -> &'static str {
-    match refusal {
-        Refusal::Broken(broken) => match broken.rule {
-            Rule::BadLine => "this is no line of a key and a value in plain bytes",
-            Rule::Unexpected => "another key or word is due here",
-            Rule::OutOfRange => "a number or a list is out of form, range or turn",
-            Rule::TooManyStates => "the plant has too many states",
-            Rule::WrongArc => "an arc leads to its own start, into the door, or is out of order",
-            Rule::NoFullRenewal => "not even the renewal of everything is feasible",
-        },
-        Refusal::BeyondReach(_) => "so many sweeps drive a value beyond its reach",
-    }
-}
+// A refusal for people: its line, and what is wrong there.
+#[derive(Clone, Copy)]
+struct InWords(Refusal);
 
-fn tell(rt: &HostRuntime, reply: Reply) -> anyhow::Result<()> {
-    match reply {
-        Reply::Plan(plan) => rt.stdout().write_all(plan.as_slice())?,
-        Reply::Refused(refusal) => {
-            let number = refusal.number();
-            let place = refusal.place();
-            let words = words(refusal);
-            let _ = eprintln!(rt; "line {place}: {words}");
-            println!(rt; "refused={number},{place}")?;
-        }
+impl fmt::Display for InWords {
+    fn fmt<W: fmt::Write>(&self, f: &mut fmt::Formatter<W>) -> fmt::Result {
+        let place = self.0.place();
+        let words = match self.0 {
+            Refusal::Broken(broken) => match broken.rule {
+                Rule::BadLine => "this is no line of a key and a value in plain bytes",
+                Rule::Unexpected => "another key or word is due here",
+                Rule::OutOfRange => "a number or a list is out of form, range or turn",
+                Rule::TooManyStates => "the plant has too many states",
+                Rule::WrongArc =>
+                    "an arc leads to its own start, into the door, or is out of order",
+                Rule::NoFullRenewal => "not even the renewal of everything is feasible",
+            },
+            Refusal::BeyondReach(_) => "so many sweeps drive a value beyond its reach",
+        };
+        write!(f, "line {place}: {words}")
     }
-    Ok(())
 }
 
 fn run(rt: &HostRuntime) -> anyhow::Result<()> {
@@ -43,9 +38,15 @@ fn run(rt: &HostRuntime) -> anyhow::Result<()> {
     let length = text.len();
     let _ = eprintln!(rt; "a request of {length} bytes: reading and planning");
     match reply_to(rt.alloc(), text.as_slice()) {
-        Ok(reply) => tell(rt, reply),
-        Err(_) => Err(anyhow!("no memory for the tables and the text of the plan")),
+        Ok(plan) => rt.stdout().write_all(plan.as_slice())?,
+        Err(Unanswered::Refused(refusal)) => {
+            let words = InWords(refusal);
+            let _ = eprintln!(rt; "{words}");
+            println!(rt; "{refusal}")?;
+        }
+        Err(Unanswered::NoMemory) => bail!("no memory for the tables and the text of the plan"),
     }
+    Ok(())
 }
 
 fn main(rt: HostRuntime) -> anyhow::Result<()> {

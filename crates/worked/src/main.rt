@@ -5,30 +5,38 @@
 mod cases;
 mod requests;
 
-use anyhow::anyhow;
-use cases::{EDITS, Edit, LARGEST, WHOLE, Whole};
-use reply::answer::Reply;
+use anyhow::{bail, ensure};
+use cases::{EDITS, LARGEST, WHOLE};
+use reply::answer::Unanswered;
 use reply::replying::reply_to;
 use requests::{edited, lines_of};
-use std::alloc::{AllocError, Global};
+use std::alloc::Global;
 
 // What the console writes for a request.
-fn output_of(heap: Global, request: &[u8]) -> Result<Vec<u8>, AllocError> {
-    match reply_to(heap, request)? {
-        Reply::Plan(plan) => Ok(plan),
-        Reply::Refused(refusal) => {
-            let number = refusal.number();
-            let place = refusal.place();
-            let line = format!(in heap; "refused={number},{place}\n")?;
-            let mut output = Vec::new(heap);
-            output.extend_from_slice(line.as_str().as_bytes())?;
-            Ok(output)
+fn output_of(heap: Global, request: &[u8]) -> anyhow::Result<Vec<u8>> {
+    match reply_to(heap, request) {
+        Ok(plan) => Ok(plan),
+        Err(Unanswered::Refused(refusal)) => {
+            let line = format!(in heap; "{refusal}\n")?;
+            Ok(line.into_bytes())
         }
+        Err(Unanswered::NoMemory) => bail!("no memory for the tables and the text of a plan"),
     }
 }
 
-// Tells whether a figure is as stated, and answers the same.
-fn tell(rt: &HostRuntime, name: &str, same: bool) -> anyhow::Result<bool> {
+// Tells whether the output for a request is as stated, and answers the same. `as_stated` compares it with the lines stated.
+fn tell<F: Fn(&[u8], &[u8]) -> bool>(
+    rt: &HostRuntime,
+    name: &str,
+    request: &[u8],
+    lines: &[&str],
+    as_stated: F,
+) -> anyhow::Result<bool>
+    requires { F.IsAlwaysCallable as_stated }
+{
+    let expected = lines_of(rt.alloc(), lines)?;
+    let output = output_of(rt.alloc(), request)?;
+    let same = as_stated(output.as_slice(), expected.as_slice());
     if same {
         println!(rt; "as stated: {name}")?;
     } else {
@@ -37,49 +45,38 @@ fn tell(rt: &HostRuntime, name: &str, same: bool) -> anyhow::Result<bool> {
     Ok(same)
 }
 
-fn tell_edit(rt: &HostRuntime, edit: &Edit) -> anyhow::Result<bool> {
-    let request = edited(rt.alloc(), edit.line, edit.text)?;
-    let expected = lines_of(rt.alloc(), &[edit.output])?;
-    let output = output_of(rt.alloc(), request.as_slice())?;
-    tell(rt, edit.name, output.as_slice() == expected.as_slice())
-}
-
-fn tell_whole(rt: &HostRuntime, whole: &Whole) -> anyhow::Result<bool> {
-    let request = lines_of(rt.alloc(), whole.request)?;
-    let expected = lines_of(rt.alloc(), whole.output)?;
-    let output = output_of(rt.alloc(), request.as_slice())?;
-    tell(rt, whole.name, output.as_slice() == expected.as_slice())
-}
-
-// The same of an output that begins so.
-fn tell_beginning(rt: &HostRuntime, whole: &Whole) -> anyhow::Result<bool> {
-    let request = lines_of(rt.alloc(), whole.request)?;
-    let expected = lines_of(rt.alloc(), whole.output)?;
-    let output = output_of(rt.alloc(), request.as_slice())?;
-    tell(
-        rt,
-        whole.name,
-        output.as_slice().starts_with(expected.as_slice()),
-    )
-}
-
 fn run(rt: &HostRuntime) -> anyhow::Result<()> {
-    let mut all = tell_beginning(rt, &LARGEST)?;
+    let largest = &LARGEST;
+    let request = lines_of(rt.alloc(), largest.request)?;
+    let mut all = tell(
+        rt,
+        largest.name,
+        request.as_slice(),
+        largest.output,
+        |output, beginning| output.starts_with(beginning),
+    )?;
     for whole in &WHOLE {
-        if !tell_whole(rt, whole)? {
-            all = false;
-        }
+        let request = lines_of(rt.alloc(), whole.request)?;
+        all &= tell(
+            rt,
+            whole.name,
+            request.as_slice(),
+            whole.output,
+            |output, expected| output == expected,
+        )?;
     }
     for edit in &EDITS {
-        if !tell_edit(rt, edit)? {
-            all = false;
-        }
+        let request = edited(rt.alloc(), edit.line, edit.text)?;
+        all &= tell(
+            rt,
+            edit.name,
+            request.as_slice(),
+            &[edit.output],
+            |output, expected| output == expected,
+        )?;
     }
-    if all {
-        Ok(())
-    } else {
-        Err(anyhow!("a figure differs from what is stated"))
-    }
+    ensure!(all, "a figure differs from what is stated");
+    Ok(())
 }
 
 fn main(rt: HostRuntime) -> anyhow::Result<()> {

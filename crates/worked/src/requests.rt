@@ -15,10 +15,8 @@ pub(crate) fn lines_of(heap: Global, lines: &[&str]) -> Result<Vec<u8>, AllocErr
 // The example with a text in the place of a line, counted from 1, and of its line end.
 pub(crate) fn edited(heap: Global, line: usize, other: &str) -> Result<Vec<u8>, AllocError> {
     let mut text = Vec::new(heap);
-    let mut number = 0usize;
-    for kept in &EXAMPLE {
-        number = number.saturating_add(1);
-        if number == line {
+    for (i, kept) in EXAMPLE.iter().enumerate() {
+        if i + 1 == line {
             text.extend_from_slice(other.as_bytes())?;
         } else {
             text.extend_from_slice(kept.as_bytes())?;
