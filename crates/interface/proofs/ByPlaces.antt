@@ -1,12 +1,9 @@
 -- Rows place by place, for loops that write one place after another.
-use Rattle.std.proofs.Common.{◌≡◌, ℕ, zero, suc, ◌+◌, ◌*◌, ◌<◌, ◌≤◌, max, [], ◌∷◌, ◌++◌, length, get_or, take, drop, set, pos, ◌+ℤ◌, ◌-ℤ◌, ◌*ℤ◌, nat_abs, refl, ap, arith, add-one, append-nil, ℤ, w64, FitsSigned}
-use Rattle.std.proofs.Math.IntN.{*ℤ_comm}
+use Rattle.std.proofs.Common.{◌≡◌, ℕ, zero, suc, ◌+◌, ◌<◌, ◌≤◌, max, [], ◌∷◌, ◌++◌, length, get_or, take, drop, set, pos, ◌+ℤ◌, ◌-ℤ◌, ◌*ℤ◌, nat_abs, refl, ap, arith, add-one, append-nil, ℤ}
 use Rattle.std.specs.List.{fold}
-use Rattle.std.proofs.lemmas.Nat.{mul-le}
-use Rattle.std.proofs.lemmas.Int.{fits_signed_mul}
 use Rattle.std.proofs.lemmas.List.{take_all, drop_all}
 use Rattle.std.specs.Int.{int_div_euclid}
-use Rattle.interface.specs.Limits.{whole, most_reach}
+use Rattle.interface.specs.Limits.{whole}
 use Rattle.interface.specs.Rows.{Row, plus, minus, times, share, reach}
 
 pub reach_at : (u : Row) (k : ℕ) → nat_abs (get_or u k (pos 0)) ≤ reach u
@@ -46,19 +43,10 @@ pub length-share : (u : Row) → length (share u) ≡ length u
 length-share [] = refl
 length-share (x ∷ u) = let ih = length-share u in omega arith
 
-pub times_at : (n : ℕ) (u : Row) (k : ℕ) → k < length u → get_or (times n u) k (pos 0) ≡ get_or u k (pos 0) *ℤ pos n
+pub times_at : (n : ℕ) (u : Row) (k : ℕ) → k < length u → get_or (times n u) k (pos 0) ≡ pos n *ℤ get_or u k (pos 0)
 times_at n [] k l = absurd (omega arith)
-times_at n (x ∷ u) zero l = *ℤ_comm (pos n) x
+times_at n (x ∷ u) zero l = refl
 times_at n (x ∷ u) (suc k) l = times_at n u k (omega arith)
-
--- Where a row may be multiplied, so may each of its places.
-pub product_fits : (n m : ℕ) (u : Row) (k : ℕ) → m ≡ reach u → n * m ≤ most_reach → FitsSigned w64 (get_or u k (pos 0) *ℤ pos n)
-product_fits n m u k e l =
-    let x = get_or u k (pos 0) in
-    let same : n ≤ n = omega arith in
-    let below : nat_abs x ≤ m = omega (arith, reach_at u k) in
-    let small : n * nat_abs x ≤ n * m = mul-le n (nat_abs x) n m same below in
-    fits_signed_mul w64 x (pos n) (nat_abs x) n (omega arith) (omega arith) (omega arith)
 
 pub share_at : (u : Row) (k : ℕ) → k < length u → get_or (share u) k (pos 0) ≡ int_div_euclid (get_or u k (pos 0)) (pos whole)
 share_at [] k l = absurd (omega arith)

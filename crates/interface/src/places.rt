@@ -1,5 +1,6 @@
 // Arithmetic on the places of amounts, for whoever writes a tariff: an amount of N places is an array here, place by place.
-ghost use Rattle.std.specs.Prelude.{◌≡◌, ℕ, ◌+◌, ◌*◌, ◌≤◌, true, false, leb, if◌then◌else◌, nat_le};
+ghost use Rattle.std.specs.Prelude.{◌≡◌, ℕ, ◌+◌, ◌*◌, ◌≤◌, true, false, leb, pos, ◌*ℤ◌, if◌then◌else◌, nat_le, unsigned_abs};
+ghost use Rattle.std.specs.Option.{SomeIff};
 ghost use Rattle.interface.specs.Limits.{most_reach, most_factor};
 ghost use Rattle.interface.specs.Rows.{plus, minus, times, share, reach};
 ghost use Rattle.interface.specs.Tariffs.{Answers, summable, multipliable};
@@ -55,6 +56,18 @@ pub fn difference<const N: usize>(mut a: [i64; N], b: [i64; N]) -> Option<[i64; 
     Some(a)
 }
 
+// A multiple of a place, absent exactly when it would exceed MOST_REACH.
+pub fn multiply(factor: u32, a: i64) -> Option<i64>
+    ensures { SomeIff result (factor * unsigned_abs a ≤ most_reach) (pos factor *ℤ a) }
+{
+    let size = u128::from(factor) * u128::from(a.unsigned_abs());
+    if size > u128::from(MOST_REACH) {
+        return None;
+    }
+    let size = size as i64;
+    Some(if a < 0 { -size } else { size })
+}
+
 // A multiple of an amount, absent exactly when the factor exceeds MOST_FACTOR or the multiple's reach would exceed MOST_REACH.
 pub fn multiple<const N: usize>(factor: u32, mut a: [i64; N]) -> Option<[i64; N]>
     ensures { Answers (λ u. u) result (multipliable factor a.entry) (times factor a.entry) }
@@ -63,7 +76,7 @@ pub fn multiple<const N: usize>(factor: u32, mut a: [i64; N]) -> Option<[i64; N]
         return None;
     }
     for place in a.iter_mut() {
-        *place *= i64::from(factor);
+        *place = multiply(factor, *place)?;
     }
     Some(a)
 }
