@@ -2,6 +2,7 @@
 use Rattle.std.specs.Prelude.{◌≡◌, ℕ, ◌<◌, cond, List, [], ◌∷◌, ◌++◌, length, Some, None, Option, ◌==◌}
 use Rattle.std.specs.Borrow.{Bor}
 use Rattle.std.specs.List.{AllByRecursion}
+use Rattle.std.specs.Option.{MatchOption}
 use Rattle.lines.specs.declared.cutting.FirstField.{FirstField}
 use Rattle.lines.specs.Cuts.{Free}
 
@@ -44,12 +45,6 @@ pub record FieldsOf (text : List ℕ) (fs : List (List ℕ)) : Type 0 where
   pub free : AllByRecursion (Free comma) fs
   pub only : (gs : List (List ℕ)) → 0 < length gs → AllByRecursion (Free comma) gs → joined gs ≡ text → gs ≡ fs
 
--- what is still to be read is taken apart into its fields
-abbrev pub StillOf : Option (Bor (List ℕ)) → Type 0
-StillOf None = Unit {0}
-StillOf (Some t) = FieldsOf t.now (fields t.now)
-
 -- the first of the fields is given and taken away, where there is one
 abbrev pub NextOf : List (List ℕ) → Option (Bor (List ℕ)) → List (List ℕ) → Type 0
-NextOf fs None gs = (fs ≡ []) × (gs ≡ [])
-NextOf fs (Some f) gs = fs ≡ f.now ∷ gs
+NextOf fs first gs = MatchOption first ((fs ≡ []) × (gs ≡ [])) (λ f. fs ≡ f.now ∷ gs)

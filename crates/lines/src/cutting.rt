@@ -1,7 +1,8 @@
 // Cuts of a text at a byte, and its fields between commas.
 ghost use Rattle.std.specs.Prelude.{◌≡◌};
+ghost use Rattle.std.specs.Iterator.{YieldsFirstRef, item_count};
 ghost use Rattle.lines.specs.Cuts.{parts, cut_at, CutFirst};
-ghost use Rattle.lines.specs.Fields.{fields, further, FirstOf, NextOf, StillOf};
+ghost use Rattle.lines.specs.Fields.{fields, further, FirstOf, FieldsOf};
 
 // The byte between two fields.
 pub const COMMA: u8 = b',';
@@ -46,16 +47,22 @@ pub struct Fields<'a> {
 
 impl<'a> Fields<'a> {
     pub fn new(text: &'a [u8]) -> Self
-        ensures { further result.rest ≡ fields text.now }
+        ensures fields { further result.rest ≡ fields text.now }
+        ensures law { FieldsOf text.now (fields text.now) }
     {
         Fields { rest: Some(text) }
     }
+}
 
-    // The next field, absent behind the last.
-    pub fn next_field(&mut self) -> Option<&'a [u8]>
-        ensures value { NextOf (further self.old.rest) result (further self.new.rest) }
-        ensures law { StillOf self.old.rest }
-    {
+// The next field comes first, and none behind the last.
+impl<'a> Iterator for Fields<'a> {
+    type Item = &'a [u8];
+
+    ghost next_gives = { YieldsFirstRef (λ fields. further fields.rest) };
+
+    ghost remaining = { item_count (λ fields. further fields.rest) };
+
+    fn next(&mut self) -> Option<&'a [u8]> {
         let FirstField { first, rest } = first_field(self.rest?);
         self.rest = rest;
         Some(first)

@@ -27,10 +27,10 @@ fn read_places<T: Tariff>(tariff: &T, mut fields: Fields) -> Option<T::Amount>
 {
     let mut amount = tariff.zero();
     for i in 0..tariff.place_count() {
-        let place = signed(fields.next_field()?)?;
+        let place = signed(fields.next()?)?;
         amount = tariff.with_place(amount, i, place)?;
     }
-    if fields.next_field().is_some() {
+    if fields.next().is_some() {
         return None;
     }
     Some(amount)
@@ -58,8 +58,8 @@ pub(crate) fn read_entry<T: Tariff>(
     ensures { option_map (entry_rows T.Tariff.row) result ≡ entry_of (T.scale tariff.now).places state (fields_of value.now) }
 {
     let mut fields = Fields::new(value);
-    let turn = fields.next_field()?;
-    let portfolio = fields.next_field()?;
+    let turn = fields.next()?;
+    let portfolio = fields.next()?;
     number(turn, MOST_STATES as u64).filter(|turn| *turn == state as u64)?;
     let portfolio = number(portfolio, MOST_PORTFOLIO)? as u16;
     let value = read_places(tariff, fields)?;

@@ -29,9 +29,9 @@ pub fn number_list<const N: usize>(value: &[u8], most: u32, count: usize) -> Opt
     let mut numbers = [0; N];
     let mut fields = Fields::new(value);
     for number in &mut numbers[..count] {
-        *number = number_between(fields.next_field()?, 0, most)?;
+        *number = number_between(fields.next()?, 0, most)?;
     }
-    fields.next_field().is_none().then_some(numbers)
+    fields.next().is_none().then_some(numbers)
 }
 
 // Reads the fields that are left as numbers into `out`, one for each place, and nothing where one is missing, is left
@@ -40,7 +40,7 @@ fn take_numbers(mut fields: Fields, most: u32, out: &mut [u32]) -> bool
     ensures test { result ≡ is_some (numbers_of (further fields.entry.rest) most (length out.old)) }
     ensures after { out.new ≡ unwrap_or (numbers_of (further fields.entry.rest) most (length out.old)) out.old }
 {
-    let field = fields.next_field();
+    let field = fields.next();
     if out.is_empty() {
         return field.is_none();
     }

@@ -24,8 +24,8 @@ pub enum TariffChoice {
 fn priced_by(mut fields: Fields) -> Result<TariffChoice, Rule>
     ensures { result ≡ priced_by (further fields.entry.rest) }
 {
-    let rate = fields.next_field().ok_or(Rule::OutOfRange)?;
-    if fields.next_field().is_some() {
+    let rate = fields.next().ok_or(Rule::OutOfRange)?;
+    if fields.next().is_some() {
         return Err(Rule::OutOfRange);
     }
     number_between(rate, 0, MOST_RATE)
@@ -36,7 +36,7 @@ fn priced_by(mut fields: Fields) -> Result<TariffChoice, Rule>
 fn air_first_by(mut fields: Fields) -> Result<TariffChoice, Rule>
     ensures { result ≡ air_first_by (further fields.entry.rest) }
 {
-    match fields.next_field() {
+    match fields.next() {
         None => Ok(TariffChoice::AirFirst),
         Some(_) => Err(Rule::OutOfRange),
     }
@@ -50,7 +50,7 @@ impl TryFrom<&[u8]> for TariffChoice {
 
     fn try_from(value: &[u8]) -> Result<TariffChoice, Rule> {
         let mut fields = Fields::new(value);
-        match fields.next_field() {
+        match fields.next() {
             Some(b"priced") => priced_by(fields),
             Some(b"airfirst") => air_first_by(fields),
             _ => Err(Rule::Unexpected),

@@ -6,12 +6,12 @@ use Rattle.lines.specs.Fields.{further}
 use Rattle.plantext.proofs.ValueLaws.{reads_on, no_field, no_place, place_more, places_all, taken_more, not_some}
 use Rattle.plantext.proofs.values.read_places.Goals as goal
 
-pub returns-in_err-next_field : goal.returns-in_err-next_field
-returns-in_err-next_field g c =
+pub returns-in_err-next : goal.returns-in_err-next
+returns-in_err-next g c =
     let row = g.T.Tariff.row in
     let places = (g.T.Tariff.scale c.args.tariff.now).places in
     let some : 0 < places - c.loop-i.i = omega (arith, c.place_count-i-end.ensures) in
-    let none = no_field (take c.loop-i.i (row c.loop-i.amount)) (places - c.loop-i.i) _ some c.in_err-next_field.ensures.value.0 in
+    let none = no_field (take c.loop-i.i (row c.loop-i.amount)) (places - c.loop-i.i) _ some c.in_err-next.ensures.steps.0 in
     ap (option_map row) c.from_residual.ensures ∙ sym none ∙ c.loop-i.invariant
 
 pub returns-in_err-place : goal.returns-in_err-place
@@ -19,7 +19,7 @@ returns-in_err-place g c =
     let row = g.T.Tariff.row in
     let places = (g.T.Tariff.scale c.args.tariff.now).places in
     let some : 0 < places - c.loop-i.i = omega (arith, c.place_count-i-end.ensures) in
-    let none = no_place (take c.loop-i.i (row c.loop-i.amount)) (places - c.loop-i.i) _ _ _ some c.in_ok-next_field.ensures.value (sym c.in_err-place.ensures.value) in
+    let none = no_place (take c.loop-i.i (row c.loop-i.amount)) (places - c.loop-i.i) _ _ _ some c.in_ok-next.ensures.steps (sym c.in_err-place.ensures.value) in
     ap (option_map row) c.from_residual-in_err-place.ensures ∙ sym none ∙ c.loop-i.invariant
 
 pub loop-i-preserved : goal.loop-i-preserved
@@ -33,8 +33,8 @@ loop-i-preserved g c =
     let long = g.met.T.Tariff.fits c.args.tariff.now c.loop-i.amount in
     let inside : i < length (row c.loop-i.amount) = omega (arith, c.place_count-i-end.ensures) in
     let left : places - i ≡ suc (places - (i + 1)) = omega (arith, c.place_count-i-end.ensures) in
-    ap (λ p. reads_on p (places - (i + 1)) (further c.next_field.new.self.rest)) (taken_more (row c.loop-i.amount) (row c.in_ok-amount.amount) i z set_is inside)
-    ∙ place_more (take i (row c.loop-i.amount)) z (places - i) (places - (i + 1)) _ _ _ left c.in_ok-next_field.ensures.value (sym c.in_ok-place.ensures.value)
+    ap (λ p. reads_on p (places - (i + 1)) (further c.next.new.self.rest)) (taken_more (row c.loop-i.amount) (row c.in_ok-amount.amount) i z set_is inside)
+    ∙ place_more (take i (row c.loop-i.amount)) z (places - i) (places - (i + 1)) _ _ _ left c.in_ok-next.ensures.steps (sym c.in_ok-place.ensures.value)
     ∙ c.loop-i.invariant
 
 pub returns : goal.returns
@@ -45,6 +45,6 @@ returns g c =
     let long = g.met.T.Tariff.fits c.args.tariff.now c.loop-i.amount in
     let all : length (row c.loop-i.amount) ≤ i = omega (arith, c.place_count-i-end.ensures) in
     let over : places - i ≡ 0 = omega (arith, c.place_count-i-end.ensures) in
-    let none : c.next_field-2.result ≡ None = not_some c.next_field-2.result (sym c.is_some.ensures ∙ c.if-is_some.false) in
-    let last = rw none at c.next_field-2.ensures.value in
+    let none : c.next-2.result ≡ None = not_some c.next-2.result (sym c.is_some.ensures ∙ c.if-is_some.false) in
+    let last = rw none at c.next-2.ensures.steps in
     sym (places_all (take i (row c.loop-i.amount)) (places - i) _ over last.0 ∙ ap Some (take_all i (row c.loop-i.amount) all)) ∙ c.loop-i.invariant

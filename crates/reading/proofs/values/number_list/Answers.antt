@@ -4,25 +4,25 @@ use Rattle.reading.proofs.ValueLaws.{list_law}
 use Rattle.reading.proofs.values.number_list.Goals as goal
 
 pub loop-number-init : goal.loop-number-init
-loop-number-init g c = none_yet _ _ c.args.most c.args.count [] c.new-fields.ensures
+loop-number-init g c = none_yet _ _ c.args.most c.args.count [] c.new-fields.ensures.fields
 
-pub returns-in_err-next_field-clause-value : goal.returns-in_err-next_field-clause-value
-returns-in_err-next_field-clause-value g c =
-    let lost = field_missing _ _ c.args.most c.args.count c.loop-number.number-index _ c.loop-number.invariant (omega arith) c.in_err-next_field.ensures.value.0 in
+pub returns-in_err-next-clause-value : goal.returns-in_err-next-clause-value
+returns-in_err-next-clause-value g c =
+    let lost = field_missing _ _ c.args.most c.args.count c.loop-number.number-index _ c.loop-number.invariant (omega arith) c.in_err-next.ensures.steps.0 in
     c.from_residual.ensures ∙ list_refused c.args.value.now g.row.N c.args.most c.args.count lost
 
 pub returns-in_err-number-clause-value : goal.returns-in_err-number-clause-value
 returns-in_err-number-clause-value g c =
-    let lost = field_unread _ _ c.args.most c.args.count c.loop-number.number-index _ c.loop-number.invariant _ _ c.in_ok-next_field.ensures.value (omega arith) c.in_err-number.ensures.value in
+    let lost = field_unread _ _ c.args.most c.args.count c.loop-number.number-index _ c.loop-number.invariant _ _ c.in_ok-next.ensures.steps (omega arith) c.in_err-number.ensures.value in
     c.from_residual-in_err-number.ensures ∙ list_refused c.args.value.now g.row.N c.args.most c.args.count lost
 
 pub loop-number-preserved : goal.loop-number-preserved
 loop-number-preserved g c =
-    field_read _ _ c.args.most c.args.count c.loop-number.number-index _ c.loop-number.invariant _ _ c.in_ok-next_field.ensures.value _ (omega arith) (omega arith) c.in_ok-number.ensures.value
+    field_read _ _ c.args.most c.args.count c.loop-number.number-index _ c.loop-number.invariant _ _ c.in_ok-next.ensures.steps _ (omega arith) (omega arith) c.in_ok-number.ensures.value
 
 pub returns-clause-value : goal.returns-clause-value
 returns-clause-value g c =
-    let ended = list_ended c.args.value.now g.row.N c.args.most c.args.count c.loop-number.number-index c.loop-number.number-items _ _ c.next_field-2.result c.is_none.result c.loop-number.invariant (omega arith) (omega arith) (omega arith) c.next_field-2.ensures.value c.is_none.ensures in
+    let ended = list_ended c.args.value.now g.row.N c.args.most c.args.count c.loop-number.number-index c.loop-number.number-items _ _ c.next-2.result c.is_none.result c.loop-number.invariant (omega arith) (omega arith) (omega arith) c.next-2.ensures.steps c.is_none.ensures in
     c.then_some.ensures ∙ ended
 
 pub returns-then-count-clause-law : goal.returns-then-count-clause-law

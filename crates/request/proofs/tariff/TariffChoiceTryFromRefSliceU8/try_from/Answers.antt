@@ -7,5 +7,5 @@ use Rattle.request.proofs.tariff.TariffChoiceTryFromRefSliceU8.try_from.Goals as
 pub returns-in-Some-airfirst : goal.returns-in-Some-airfirst
 returns-in-Some-airfirst c =
     let word : c.in-Some-airfirst.field-0.now ≡ codes "airfirst" = text_from_reads _ _ (omega arith) (search rules) in
-    let rest = further c.next_field.new.self.rest in
-    c.air_first_by.ensures ∙ sym (ap tariff_by (sym c.new-fields.ensures ∙ c.in-Some-airfirst.ensures.value ∙ ap (λ w. w ∷ rest) word))
+    let rest = further c.next.new.self.rest in
+    c.air_first_by.ensures ∙ sym (ap tariff_by (sym c.new-fields.ensures.fields ∙ c.in-Some-airfirst.ensures.steps ∙ ap (λ w. w ∷ rest) word))
