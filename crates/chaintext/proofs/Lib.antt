@@ -2,7 +2,7 @@ pub mod AllParts
 pub mod Arcs
 pub mod ChainTextLaw
 pub mod Forgets
-pub mod Hazards
+pub mod Lists
 pub mod Heads
 pub mod Lines
 pub mod Parts

@@ -1,6 +1,6 @@
 -- What a text comes to, line by line, from what is read so far.
-use Rattle.std.specs.Prelude.{◌≡◌, ℕ, ◌+◌, cond, List, replicate, Ok, Err, ◌==◌, ◌≢◌}
-use Rattle.lines.specs.Line.{Said, pair, fault, line_at, rest_at, bad_line}
+use Rattle.std.specs.Prelude.{◌≡◌, ℕ, ◌+◌, List, replicate, Ok, Err, ◌≢◌}
+use Rattle.lines.specs.Line.{Said, pair, fault, line_at, rest_at}
 use Rattle.workorder.specs.Orders.{max_parts}
 use Rattle.chain.specs.Limits.{most_life, most_arcs}
 use Rattle.chain.specs.declared.numbers.ChainNumbers.{ChainNumbers}
@@ -8,8 +8,9 @@ use Rattle.chain.specs.declared.numbers.Part.{Part}
 use Rattle.chain.specs.declared.refusal.ChainRefusal.{ChainRefusal}
 use Rattle.chain.specs.declared.refusal.ChainRefusal.TheVariants as chain_refusal
 use Rattle.reading.specs.Keys.{key_of}
+use Rattle.reading.specs.Rules.{fault_rule}
 use Rattle.reading.specs.declared.rules.Rule.{Rule}
-use Rattle.reading.specs.declared.rules.Rule.TheVariants.{BadLine, Unexpected, OutOfRange, TooManyStates, NoFullRenewal}
+use Rattle.reading.specs.declared.rules.Rule.TheVariants.{OutOfRange, TooManyStates, NoFullRenewal}
 use Rattle.chaintext.specs.declared.reader.Stage.TheVariants as stage
 use Rattle.chaintext.specs.declared.reader.ChainReader.{ChainReader}
 use Rattle.chaintext.specs.Steps.{Step, no_arc, chain_step}
@@ -28,14 +29,10 @@ fresh = record {
   arcs = replicate most_arcs no_arc;
 }
 
--- the rule that a faulty line breaks
-abbrev pub rule_of : ℕ → Rule
-rule_of n = cond (n == bad_line) BadLine Unexpected
-
 -- what the next line does
 abbrev pub line_step : ChainReader → Said → Step
 line_step d (pair k v) = chain_step d (key_of k) v
-line_step d (fault n) = Err (rule_of n)
+line_step d (fault n) = Err (fault_rule n)
 
 -- how reading ends: with all that is read, what is left of the text and the number of lines read, or refused at a line
 pub data Ending : Type 0 where

@@ -4,7 +4,7 @@ ghost use Rattle.chain.specs.Parts.{LawfulNumbers};
 ghost use Rattle.lines.specs.Line.{said};
 ghost use Rattle.chaintext.specs.Answers.{ReadsChain, Replaced};
 ghost use Rattle.chaintext.specs.Counted.{CountedChain, CountedReplaced, MadeOf, ReadsLines};
-ghost use Rattle.chaintext.specs.Reads.{fresh, rule_of, line_step, numbers_of, rule_for};
+ghost use Rattle.chaintext.specs.Reads.{fresh, line_step, numbers_of, rule_for};
 ghost use Rattle.chaintext.specs.Sample.{SampleBegins};
 ghost use Rattle.chaintext.specs.Steps.{Took};
 ghost use Rattle.chaintext.specs.Writing.{ReadsFrom, answered, answered_into};
@@ -14,9 +14,9 @@ use chain::limits::{MOST_ARCS, MOST_LIFE};
 use chain::numbers::{ChainNumbers, Part};
 use chain::plant::Chain;
 use chain::refusal::ChainRefusal;
-use lines::reading::{BAD_LINE, Line, Lines};
-use reading::keys::key_of;
-use reading::rules::{ReadRefusal, Rule};
+use lines::reading::{Line, Lines};
+use reading::keys::Key;
+use reading::rules::{ReadRefusal, Rule, fault_rule};
 use workorder::{Arc, MAX_PARTS};
 
 impl ChainReader {
@@ -70,20 +70,9 @@ impl ChainReader {
         ensures { Took (line_step self.old (said line.entry)) self.old self.new result }
     {
         match line {
-            Line::Pair(key, value) => self.step(key_of(key), value),
-            Line::Fault(number) => Err(broken_rule(number)),
+            Line::Pair(key, value) => self.step(Key::from(key), value),
+            Line::Fault(number) => Err(fault_rule(number)),
         }
-    }
-}
-
-// The rule that a faulty line breaks.
-fn broken_rule(fault: u8) -> Rule
-    ensures { result ≡ rule_of fault }
-{
-    if fault == BAD_LINE {
-        Rule::BadLine
-    } else {
-        Rule::Unexpected
     }
 }
 
@@ -113,10 +102,8 @@ fn read_lines(lines: &mut Lines) -> Result<Complete, ReadRefusal>
     'reading: loop {
         let read = lines.next_line();
         let line = read.place;
-        if let Err(rule) = reader.take_line(read.line) {
-            return Err(ReadRefusal { rule, line });
-        }
-        if let Stage::Done = reader.stage {
+        reader.take_line(read.line).map_err(|rule| ReadRefusal { rule, line })?;
+        if reader.stage == Stage::Done {
             return Ok(Complete { reader, line });
         }
     }
@@ -127,13 +114,10 @@ fn make_chain(complete: Complete) -> Result<Chain, ReadRefusal>
     requires { LawfulNumbers (numbers_of complete.reader) }
     ensures { MadeOf (numbers_of complete.reader) complete.line result }
 {
-    match Chain::new(complete.reader.numbers()) {
-        Ok(chain) => Ok(chain),
-        Err(refusal) => Err(ReadRefusal {
-            rule: rule_for(refusal),
-            line: complete.line,
-        }),
-    }
+    Chain::new(complete.reader.numbers()).map_err(|refusal| ReadRefusal {
+        rule: rule_for(refusal),
+        line: complete.line,
+    })
 }
 
 // Reads a chain: its lines, and then the making of it. The lines behind its end are left to be read.
@@ -153,7 +137,6 @@ pub fn read_chain_into(chain: &mut Chain, lines: &mut Lines) -> Result<(), ReadR
     ensures counts { CountedReplaced chain.old chain.new lines.old.rest.now lines.old.place lines.new.rest.now lines.new.place result }
     ensures law { ReadsFrom lines.old.rest.now (answered_into chain.new result) lines.new.rest.now }
 {
-    let read = read_chain(lines)?;
-    *chain = read;
+    *chain = read_chain(lines)?;
     Ok(())
 }

@@ -1,15 +1,12 @@
 // The lines of a chain's text, each as a step of the reader.
 ghost use Rattle.std.specs.Prelude.{◌≡◌};
-ghost use Rattle.chain.specs.declared.numbers.Part.{Part};
-ghost use Rattle.chaintext.specs.Steps.{Took, place_of, kind_step, parts_step, threshold_step, setup_step, alarm_step, part_step, life_step, hazards_of, hazard_step, surplus_step, after_part, dark_step, straight, behind, rising, arc_of, arc_step, end_step, chain_step};
+ghost use Rattle.chaintext.specs.Steps.{Took, place_of, kind_step, parts_step, threshold_step, setup_step, alarm_step, part_step, life_step, hazard_step, surplus_step, after_part, dark_step, straight, behind, rising, arc_of, arc_step, end_step, chain_step};
 
 use crate::reader::{ChainReader, Stage};
 use chain::limits::{MOST_ARCS, MOST_CHARGE, MOST_DARK, MOST_HAZARD, MOST_LIFE, MOST_THRESHOLD};
-use chain::numbers::Part;
 use reading::keys::Key;
 use reading::rules::Rule;
-use reading::values::{number_between, read_list};
-use reading::words::is_word;
+use reading::values::{number_between, number_list};
 use workorder::{Arc, MAX_PARTS};
 
 impl ChainReader {
@@ -17,7 +14,7 @@ impl ChainReader {
     fn take_kind(&mut self, value: &[u8]) -> Result<(), Rule>
         ensures { Took (kind_step self.old value.now) self.old self.new result }
     {
-        if !is_word(value, b"chain") {
+        if value != b"chain".as_slice() {
             return Err(Rule::Unexpected);
         }
         self.stage = Stage::Parts;
@@ -28,9 +25,7 @@ impl ChainReader {
     fn take_parts(&mut self, value: &[u8]) -> Result<(), Rule>
         ensures { Took (parts_step self.old value.now) self.old self.new result }
     {
-        let Some(n) = number_between(value, 1, MAX_PARTS as u32) else {
-            return Err(Rule::OutOfRange);
-        };
+        let n = number_between(value, 1, MAX_PARTS as u32).ok_or(Rule::OutOfRange)?;
         self.head.count = n as usize;
         self.stage = Stage::Threshold;
         Ok(())
@@ -40,9 +35,7 @@ impl ChainReader {
     fn take_threshold(&mut self, value: &[u8]) -> Result<(), Rule>
         ensures { Took (threshold_step self.old value.now) self.old self.new result }
     {
-        let Some(n) = number_between(value, 0, MOST_THRESHOLD) else {
-            return Err(Rule::OutOfRange);
-        };
+        let n = number_between(value, 0, MOST_THRESHOLD).ok_or(Rule::OutOfRange)?;
         self.head.threshold = n;
         self.stage = Stage::Setup;
         Ok(())
@@ -52,9 +45,7 @@ impl ChainReader {
     fn take_setup(&mut self, value: &[u8]) -> Result<(), Rule>
         ensures { Took (setup_step self.old value.now) self.old self.new result }
     {
-        let Some(n) = number_between(value, 0, MOST_CHARGE) else {
-            return Err(Rule::OutOfRange);
-        };
+        let n = number_between(value, 0, MOST_CHARGE).ok_or(Rule::OutOfRange)?;
         self.head.setup = n;
         self.stage = Stage::Alarm;
         Ok(())
@@ -64,9 +55,7 @@ impl ChainReader {
     fn take_alarm(&mut self, value: &[u8]) -> Result<(), Rule>
         ensures { Took (alarm_step self.old value.now) self.old self.new result }
     {
-        let Some(n) = number_between(value, 0, MOST_CHARGE) else {
-            return Err(Rule::OutOfRange);
-        };
+        let n = number_between(value, 0, MOST_CHARGE).ok_or(Rule::OutOfRange)?;
         self.head.alarm = n;
         self.stage = Stage::Part;
         Ok(())
@@ -80,9 +69,7 @@ impl ChainReader {
             return Err(Rule::OutOfRange);
         }
         let due = self.opened as u32 + 1;
-        let Some(n) = number_between(value, due, due) else {
-            return Err(Rule::OutOfRange);
-        };
+        let n = number_between(value, due, due).ok_or(Rule::OutOfRange)?;
         self.opened = n as usize;
         self.stage = Stage::Life;
         Ok(())
@@ -103,28 +90,23 @@ impl ChainReader {
     fn take_life(&mut self, value: &[u8]) -> Result<(), Rule>
         ensures { Took (life_step self.old value.now) self.old self.new result }
     {
-        let Some(at) = self.place() else {
-            return Err(Rule::Unexpected);
-        };
-        let Some(n) = number_between(value, 1, MOST_LIFE as u32) else {
-            return Err(Rule::OutOfRange);
-        };
-        fill_life(&mut self.parts[at], n);
+        let at = self.place().ok_or(Rule::Unexpected)?;
+        let n = number_between(value, 1, MOST_LIFE as u32).ok_or(Rule::OutOfRange)?;
+        let part = &mut self.parts[at];
+        part.life = n as usize;
         self.stage = Stage::Hazard;
         Ok(())
     }
 
-    // hazard: one to each age below the life
+    // hazard: one to each age below the life, and zeros beyond
+    #[tactic(auto, using(crate::proofs::Lists::hazards_read))]
     fn take_hazard(&mut self, value: &[u8]) -> Result<(), Rule>
         ensures { Took (hazard_step self.old value.now) self.old self.new result }
     {
-        let Some(at) = self.place() else {
-            return Err(Rule::Unexpected);
-        };
-        let Some(hazards) = read_hazards(value, self.parts[at].life) else {
-            return Err(Rule::OutOfRange);
-        };
-        fill_hazards(&mut self.parts[at], hazards);
+        let at = self.place().ok_or(Rule::Unexpected)?;
+        let hazards = number_list(value, MOST_HAZARD, self.parts[at].life).ok_or(Rule::OutOfRange)?;
+        let part = &mut self.parts[at];
+        part.hazards = hazards;
         self.stage = Stage::Surplus;
         Ok(())
     }
@@ -133,13 +115,10 @@ impl ChainReader {
     fn take_surplus(&mut self, value: &[u8]) -> Result<(), Rule>
         ensures { Took (surplus_step self.old value.now) self.old self.new result }
     {
-        let Some(at) = self.place() else {
-            return Err(Rule::Unexpected);
-        };
-        let Some(n) = number_between(value, 0, MOST_CHARGE) else {
-            return Err(Rule::OutOfRange);
-        };
-        fill_surplus(&mut self.parts[at], n);
+        let at = self.place().ok_or(Rule::Unexpected)?;
+        let n = number_between(value, 0, MOST_CHARGE).ok_or(Rule::OutOfRange)?;
+        let part = &mut self.parts[at];
+        part.surplus = n;
         self.stage = Stage::Dark;
         Ok(())
     }
@@ -159,13 +138,10 @@ impl ChainReader {
     fn take_dark(&mut self, value: &[u8]) -> Result<(), Rule>
         ensures { Took (dark_step self.old value.now) self.old self.new result }
     {
-        let Some(at) = self.place() else {
-            return Err(Rule::Unexpected);
-        };
-        let Some(n) = number_between(value, 0, MOST_DARK) else {
-            return Err(Rule::OutOfRange);
-        };
-        fill_dark(&mut self.parts[at], n);
+        let at = self.place().ok_or(Rule::Unexpected)?;
+        let n = number_between(value, 0, MOST_DARK).ok_or(Rule::OutOfRange)?;
+        let part = &mut self.parts[at];
+        part.dark = n;
         self.stage = self.after_part();
         Ok(())
     }
@@ -174,7 +150,7 @@ impl ChainReader {
     fn take_end(&mut self, value: &[u8]) -> Result<(), Rule>
         ensures { Took (end_step self.old value.now) self.old self.new result }
     {
-        if !is_word(value, b"plant") {
+        if value != b"plant".as_slice() {
             return Err(Rule::Unexpected);
         }
         self.stage = Stage::Done;
@@ -219,9 +195,7 @@ impl ChainReader {
     fn take_arc(&mut self, value: &[u8]) -> Result<(), Rule>
         ensures { Took (arc_step self.old value.now) self.old self.new result }
     {
-        let Some(arc) = read_arc(value, self.head.count) else {
-            return Err(Rule::OutOfRange);
-        };
+        let arc = read_arc(value, self.head.count).ok_or(Rule::OutOfRange)?;
         let at = self.arc_count;
         if at >= MOST_ARCS || !is_straight(arc) || !self.rising(arc) {
             return Err(Rule::WrongArc);
@@ -243,65 +217,15 @@ fn is_straight(arc: Arc) -> bool
 fn comes_before(a: Arc, b: Arc) -> bool
     ensures { result ≡ behind a b }
 {
-    a.from < b.from || a.from == b.from && a.to < b.to
+    (a.from, a.to) < (b.from, b.to)
 }
 
 // Three numbers: from and to up to the number of parts, and cents.
+#[tactic(auto, using(crate::proofs::Lists::three_read))]
 fn read_arc(value: &[u8], most: usize) -> Option<Arc>
     ensures { result ≡ arc_of value.now most }
 {
-    let mut numbers = [0; 3];
-    if !read_list(value, MOST_CHARGE, &mut numbers) {
-        return None;
-    }
-    let from = numbers[0] as usize;
-    let to = numbers[1] as usize;
-    if from <= most && to <= most {
-        Some(Arc {
-            from,
-            to,
-            cents: numbers[2],
-        })
-    } else {
-        None
-    }
-}
-
-fn fill_life(part: &mut Part, n: u32)
-    ensures { part.new ≡ record { life = n; hazards = part.old.hazards; surplus = part.old.surplus; dark = part.old.dark } }
-{
-    part.life = n as usize;
-}
-
-fn fill_surplus(part: &mut Part, n: u32)
-    ensures { part.new ≡ record { life = part.old.life; hazards = part.old.hazards; surplus = n; dark = part.old.dark } }
-{
-    part.surplus = n;
-}
-
-fn fill_dark(part: &mut Part, n: u32)
-    ensures { part.new ≡ record { life = part.old.life; hazards = part.old.hazards; surplus = part.old.surplus; dark = n } }
-{
-    part.dark = n;
-}
-
-fn fill_hazards(part: &mut Part, hazards: [u32; MOST_LIFE])
-    ensures { part.new ≡ record { life = part.old.life; hazards = hazards; surplus = part.old.surplus; dark = part.old.dark } }
-{
-    part.hazards = hazards;
-}
-
-// One hazard to each age below the life, and zeros beyond.
-fn read_hazards(value: &[u8], life: usize) -> Option<[u32; MOST_LIFE]>
-    ensures { result ≡ hazards_of value.now life }
-{
-    if life > MOST_LIFE {
-        return None;
-    }
-    let mut hazards = [0; MOST_LIFE];
-    if read_list(value, MOST_HAZARD, &mut hazards[0..life]) {
-        Some(hazards)
-    } else {
-        None
-    }
+    let [from, to, cents] = number_list::<3>(value, MOST_CHARGE, 3)?;
+    let arc = Arc::new(from as usize, to as usize, cents);
+    (arc.from <= most && arc.to <= most).then_some(arc)
 }

@@ -1,43 +1,52 @@
-use Rattle.std.proofs.Common.{◌≡◌, ◌+◌, ◌<◌, length, Ok, Err, sym, ap, ◌∙◌, subst}
+use Rattle.std.proofs.Common.{◌≡◌, ◌+◌, ◌<◌, length, Ok, Err, sym, ap, ◌∙◌, subst, rules}
+use Rattle.std.proofs.lemmas.Result.{err_from_is_err_and}
 use Rattle.lines.specs.Line.{said, line_at, taken}
+use Rattle.chaintext.specs.declared.reader.Stage.TheVariants as stage
+use Rattle.chaintext.specs.Counted.{ReadsLines}
 use Rattle.chaintext.specs.Reads.{line_step}
-use Rattle.chaintext.proofs.Reading.{took_err, took_ok, shorter, refused_here, further, complete_here}
+use Rattle.chaintext.proofs.Reading.{took_err, took_on, refused_rule, shorter, refused_here, further, complete_here}
 use Rattle.chaintext.proofs.read.read_lines.Goals as goal
+use Rattle.chaintext.proofs.read.read_lines.Goals.{In_ok-map_err}
 
-pub returns-in-Err : goal.returns-in-Err
-returns-in-Err c =
+-- a line that is taken is a step of what is read
+step : (c : goal.In_ok-map_err) → line_step c.reading.reader (line_at c.reading.lines.rest.now) ≡ Ok c.take_line.new.self
+step c =
+    let d = c.reading.reader in
+    let said_at : said c.next_line-read.result.line ≡ line_at c.reading.lines.rest.now = c.next_line-read.ensures.line in
+    sym (ap (line_step d) said_at) ∙ took_on (line_step d (said c.next_line-read.result.line)) d c.take_line.new.self c.take_line.result c.map_err.result _ _ c.in_ok-map_err.was c.map_err.ensures.cases c.take_line.ensures
+
+pub returns-in_err-map_err : goal.returns-in_err-map_err
+returns-in_err-map_err c =
     let d = c.reading.reader in
     let text = c.reading.lines.rest.now in
     let place = c.reading.lines.place in
     let read = c.next_line-read.ensures in
     let line : said c.next_line-read.result.line ≡ line_at text = read.line in
-    let err = took_err (line_step d (said c.next_line-read.result.line)) d c.take_line.new.self c.take_line.result c.in-Err.rule c.in-Err.is c.take_line.ensures in
-    let steps : line_step d (line_at text) ≡ Err c.in-Err.rule = sym (ap (line_step d) line) ∙ err in
-    c.reading.invariant.1 _ (refused_here d text place c.reading.invariant.0 _ _ read.rest (read.count ∙ ap (λ l. place + taken l) line) c.in-Err.rule _ read.place steps)
+    let f = c.in_err-map_err.field-0.0 in
+    let rule = refused_rule c.take_line.result c.map_err.result f c.next_line-read.result.place _ c.in_err-map_err.was c.map_err.ensures.cases (λ e g h. search rules) in
+    let err = took_err (line_step d (said c.next_line-read.result.line)) d c.take_line.new.self c.take_line.result f.rule rule.0 c.take_line.ensures in
+    let steps : line_step d (line_at text) ≡ Err f.rule = sym (ap (line_step d) line) ∙ err in
+    let p = err_from_is_err_and c.from_residual.result c.from_residual.ensures.1 in
+    let is : c.from_residual.result ≡ Err f = p.1 ∙ ap Err p.2 in
+    let last = refused_here d text place c.reading.invariant.0 _ _ read.rest (read.count ∙ ap (λ l. place + taken l) line) f.rule _ (rule.1 ∙ read.place) steps in
+    subst (ReadsLines c.args.lines.now.rest.now c.args.lines.now.place c.next_line-read.new.self.rest.now c.next_line-read.new.self.place) (sym is) (c.reading.invariant.1 _ last)
 
-pub returns-in-Done : goal.returns-in-Done
-returns-in-Done c =
+pub returns-then-eq : goal.returns-then-eq
+returns-then-eq c =
     let d = c.reading.reader in
     let text = c.reading.lines.rest.now in
     let place = c.reading.lines.place in
     let read = c.next_line-read.ensures in
     let line : said c.next_line-read.result.line ≡ line_at text = read.line in
     let next = c.take_line.new.self in
-    let took = took_ok (line_step d (said c.next_line-read.result.line)) d next c.take_line.result c.in_default.not-Err c.take_line.ensures in
-    let steps : line_step d (line_at text) ≡ Ok next = sym (ap (line_step d) line) ∙ took in
-    let last = complete_here d text place c.reading.invariant.0 _ _ read.rest (read.count ∙ ap (λ l. place + taken l) line) next steps c.in-Done.is in
+    let done : next.stage ≡ stage.Done = search rules in
+    let last = complete_here d text place c.reading.invariant.0 _ _ read.rest (read.count ∙ ap (λ l. place + taken l) line) next (step (goal.at.returns-then-eq c).In_ok-map_err) done in
     (c.reading.invariant.1 _ last.0, read.place ∙ last.1)
 
 pub reading-smaller : goal.reading-smaller
 reading-smaller c =
-    let d = c.reading.reader in
-    let text = c.reading.lines.rest.now in
     let read = c.next_line-read.ensures in
-    let line : said c.next_line-read.result.line ≡ line_at text = read.line in
-    let next = c.take_line.new.self in
-    let took = took_ok (line_step d (said c.next_line-read.result.line)) d next c.take_line.result c.in_default.not-Err c.take_line.ensures in
-    let steps : line_step d (line_at text) ≡ Ok next = sym (ap (line_step d) line) ∙ took in
-    subst (λ w. length w < length text) (sym read.rest) (shorter d next text steps)
+    subst (λ w. length w < length c.reading.lines.rest.now) (sym read.rest) (shorter c.reading.reader c.take_line.new.self c.reading.lines.rest.now (step (goal.at.reading-smaller c).In_ok-map_err))
 
 pub reading-preserved : goal.reading-preserved
 reading-preserved c =
@@ -47,8 +56,7 @@ reading-preserved c =
     let read = c.next_line-read.ensures in
     let line : said c.next_line-read.result.line ≡ line_at text = read.line in
     let next = c.take_line.new.self in
-    let took = took_ok (line_step d (said c.next_line-read.result.line)) d next c.take_line.result c.in_default.not-Err c.take_line.ensures in
-    let steps : line_step d (line_at text) ≡ Ok next = sym (ap (line_step d) line) ∙ took in (
-      c.in_default-stage.not-Done,
-      λ o reads. c.reading.invariant.1 o (further d text place c.reading.invariant.0 _ _ read.rest (read.count ∙ ap (λ l. place + taken l) line) next o steps reads),
+    let on : next.stage ≡ stage.Done → ⊥ = search rules in (
+      on,
+      λ o reads. c.reading.invariant.1 o (further d text place c.reading.invariant.0 _ _ read.rest (read.count ∙ ap (λ l. place + taken l) line) next o (step (goal.at.reading-preserved c).In_ok-map_err) reads),
     )
