@@ -1,5 +1,5 @@
 -- Lists of numbers with zeros behind them, as they are read: the hazards of a part, and the three numbers of an arc.
-use Rattle.std.proofs.Common.{◌≡◌, ℕ, ◌-◌, leb, cond, List, ◌++◌, length, replicate, Some, None, Option, refl, ap, ◌∙◌, append-nil, arith}
+use Rattle.std.proofs.Common.{◌≡◌, ℕ, ◌-◌, leb, cond, List, ◌++◌, replicate, Some, None, Option, refl, ap, ◌∙◌, append-nil, arith}
 use Rattle.std.specs.Option.{option_map}
 use Rattle.chain.specs.Limits.{most_charge, most_life, most_hazard}
 use Rattle.reading.proofs.ValueLaws.{list_law}

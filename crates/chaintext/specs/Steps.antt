@@ -45,8 +45,12 @@ abbrev pub with_part : ChainReader → Option ℕ → (Part → Step) → Step
 with_part d None f = Err Unexpected
 with_part d (Some i) f = f (slice_index_or d.parts i blank)
 
+-- a word that is due, and what is due next
+abbrev pub word_step : ChainReader → List ℕ → List ℕ → Stage → Step
+word_step d v word next = cond (bytes_eq v word) (Ok (headed d next d.head)) (Err Unexpected)
+
 abbrev pub kind_step : ChainReader → List ℕ → Step
-kind_step d v = cond (bytes_eq v (codes "chain")) (Ok (headed d stage.Parts d.head)) (Err Unexpected)
+kind_step d v = word_step d v (codes "chain") stage.Parts
 
 abbrev pub parts_step : ChainReader → List ℕ → Step
 parts_step d v = with_number (number_between v 1 max_parts) (λ n.
@@ -136,7 +140,7 @@ abbrev pub arc_step : ChainReader → List ℕ → Step
 arc_step d v = add_arc d (arc_of v d.head.count)
 
 abbrev pub end_step : ChainReader → List ℕ → Step
-end_step d v = cond (bytes_eq v (codes "plant")) (Ok (headed d stage.Done d.head)) (Err Unexpected)
+end_step d v = word_step d v (codes "plant") stage.Done
 
 -- a line that takes a step: the reader goes on, or is refused and stays as it was
 abbrev pub Took : {U : Type 0} → Step → ChainReader → ChainReader → Result U Rule → Type 0

@@ -30,11 +30,7 @@ impl ChainReader {
             surplus: 0,
             dark: 0,
         };
-        let arc = Arc {
-            from: 0,
-            to: 0,
-            cents: 0,
-        };
+        let arc = Arc::new(0, 0, 0);
         ChainReader {
             stage: Stage::Kind,
             head: Head {
@@ -76,7 +72,7 @@ impl ChainReader {
     }
 }
 
-// Why no chain is made, as a rule.
+// Why no chain is made, as a rule. No From: both types are of crates below.
 fn rule_for(refusal: ChainRefusal) -> Rule
     ensures { result ≡ rule_for refusal }
 {
@@ -102,7 +98,9 @@ fn read_lines(lines: &mut Lines) -> Result<Complete, ReadRefusal>
     'reading: loop {
         let read = lines.next_line();
         let line = read.place;
-        reader.take_line(read.line).map_err(|rule| ReadRefusal { rule, line })?;
+        reader
+            .take_line(read.line)
+            .map_err(|rule| ReadRefusal { rule, line })?;
         if reader.stage == Stage::Done {
             return Ok(Complete { reader, line });
         }

@@ -1,6 +1,6 @@
 // The lines of a chain's text, each as a step of the reader.
 ghost use Rattle.std.specs.Prelude.{◌≡◌};
-ghost use Rattle.chaintext.specs.Steps.{Took, place_of, kind_step, parts_step, threshold_step, setup_step, alarm_step, part_step, life_step, hazard_step, surplus_step, after_part, dark_step, straight, behind, rising, arc_of, arc_step, end_step, chain_step};
+ghost use Rattle.chaintext.specs.Steps.{Took, place_of, parts_step, threshold_step, setup_step, alarm_step, part_step, life_step, hazard_step, surplus_step, after_part, dark_step, straight, rising, arc_of, arc_step, chain_step, word_step};
 
 use crate::reader::{ChainReader, Stage};
 use chain::limits::{MOST_ARCS, MOST_CHARGE, MOST_DARK, MOST_HAZARD, MOST_LIFE, MOST_THRESHOLD};
@@ -10,14 +10,14 @@ use reading::values::{number_between, number_list};
 use workorder::{Arc, MAX_PARTS};
 
 impl ChainReader {
-    // kind=chain
-    fn take_kind(&mut self, value: &[u8]) -> Result<(), Rule>
-        ensures { Took (kind_step self.old value.now) self.old self.new result }
+    // A word that is due, as kind=chain or end=plant.
+    fn take_word(&mut self, value: &[u8], word: &[u8], next: Stage) -> Result<(), Rule>
+        ensures { Took (word_step self.old value.now word.now next) self.old self.new result }
     {
-        if value != b"chain".as_slice() {
+        if value != word {
             return Err(Rule::Unexpected);
         }
-        self.stage = Stage::Parts;
+        self.stage = next;
         Ok(())
     }
 
@@ -31,7 +31,7 @@ impl ChainReader {
         Ok(())
     }
 
-    // threshold=0 to 10000
+    // threshold=0 to 10000. The next two differ in the field that they fill: as one function they would take a closure for it, which is no plainer.
     fn take_threshold(&mut self, value: &[u8]) -> Result<(), Rule>
         ensures { Took (threshold_step self.old value.now) self.old self.new result }
     {
@@ -79,11 +79,7 @@ impl ChainReader {
     fn place(&self) -> Option<usize>
         ensures { result ≡ place_of self.now }
     {
-        if self.opened > 0 && self.opened <= MAX_PARTS {
-            Some(self.opened - 1)
-        } else {
-            None
-        }
+        self.opened.checked_sub(1).filter(|at| *at < MAX_PARTS)
     }
 
     // life=1 to 20
@@ -146,23 +142,12 @@ impl ChainReader {
         Ok(())
     }
 
-    // end=plant
-    fn take_end(&mut self, value: &[u8]) -> Result<(), Rule>
-        ensures { Took (end_step self.old value.now) self.old self.new result }
-    {
-        if value != b"plant".as_slice() {
-            return Err(Rule::Unexpected);
-        }
-        self.stage = Stage::Done;
-        Ok(())
-    }
-
     // One line: matched by what is due and by its key. A refused line leaves the reader as it was.
     pub(crate) fn step(&mut self, key: Key, value: &[u8]) -> Result<(), Rule>
         ensures { Took (chain_step self.old key value.now) self.old self.new result }
     {
         match (self.stage, key) {
-            (Stage::Kind, Key::Kind) => self.take_kind(value),
+            (Stage::Kind, Key::Kind) => self.take_word(value, b"chain", Stage::Parts),
             (Stage::Parts, Key::Parts) => self.take_parts(value),
             (Stage::Threshold, Key::Threshold) => self.take_threshold(value),
             (Stage::Setup, Key::Setup) => self.take_setup(value),
@@ -173,7 +158,7 @@ impl ChainReader {
             (Stage::Surplus, Key::Surplus) => self.take_surplus(value),
             (Stage::Dark, Key::Dark) => self.take_dark(value),
             (Stage::Arc, Key::Arc) => self.take_arc(value),
-            (Stage::Arc, Key::End) => self.take_end(value),
+            (Stage::Arc, Key::End) => self.take_word(value, b"plant", Stage::Done),
             _ => Err(Rule::Unexpected),
         }
     }
@@ -188,7 +173,8 @@ impl ChainReader {
         if self.arc_count > MOST_ARCS {
             return false;
         }
-        comes_before(self.arcs[self.arc_count - 1], arc)
+        let last = self.arcs[self.arc_count - 1];
+        (last.from, last.to) < (arc.from, arc.to)
     }
 
     // arc=from,to,cents
@@ -211,13 +197,6 @@ fn is_straight(arc: Arc) -> bool
     ensures { result ≡ straight arc }
 {
     arc.to > 0 && arc.from != arc.to
-}
-
-// Whether arc a stands before arc b in the order of arcs.
-fn comes_before(a: Arc, b: Arc) -> bool
-    ensures { result ≡ behind a b }
-{
-    (a.from, a.to) < (b.from, b.to)
 }
 
 // Three numbers: from and to up to the number of parts, and cents.
