@@ -2,3 +2,4 @@ pub mod Asking
 pub mod Digests
 pub mod Exports
 pub mod Planning
+pub mod Refusals

@@ -3,15 +3,18 @@
 ghost use Rattle.std.specs.Prelude.{◌≡◌, ℕ, Result};
 ghost use Rattle.pairtext.specs.Texts.{answered, read_pair};
 ghost use Rattle.bench.specs.Exports.{ChainIn, AsksChain, AsksPair, PlansPriced, PlansAirFirst, Told};
+ghost use Rattle.bench.specs.Refusals.{numbered};
 
 use crate::asking::ask_rounds;
-use crate::planning::{plan_air_first, plan_priced};
+use crate::planning::told_plan;
+use crate::refusal::Refused;
 use chain::plant::Chain;
 use chaintext::read::read_chain;
 use lines::reading::Lines;
 use pair::plant::Pair;
 use pairtext::text::read_pair;
 use reading::rules::ReadRefusal;
+use tariffs::air_first::AirFirst;
 use tariffs::priced::Priced;
 
 // The answer to a call that was not refused.
@@ -29,64 +32,43 @@ fn pair_in(text: &[u8]) -> Result<Pair, ReadRefusal>
     read_pair(&mut Lines::new(text))
 }
 
-// A number, or the number of a refusal.
-fn ask_chain(text: &[u8], rounds: u32) -> Result<u64, u32>
-    ensures { AsksChain text.now rounds result }
+fn ask_chain(text: &[u8], rounds: u32) -> Result<u64, Refused>
+    ensures { AsksChain text.now rounds (numbered result) }
 {
-    match chain_in(text) {
-        Ok(chain) => Ok(ask_rounds(&chain, rounds)),
-        Err(refusal) => Err(refusal.number()),
-    }
+    Ok(ask_rounds(&chain_in(text)?, rounds))
 }
 
-fn ask_pair(text: &[u8], rounds: u32) -> Result<u64, u32>
-    ensures { AsksPair text.now rounds result }
+fn ask_pair(text: &[u8], rounds: u32) -> Result<u64, Refused>
+    ensures { AsksPair text.now rounds (numbered result) }
 {
-    match pair_in(text) {
-        Ok(pair) => Ok(ask_rounds(&pair, rounds)),
-        Err(refusal) => Err(refusal.number()),
-    }
+    Ok(ask_rounds(&pair_in(text)?, rounds))
 }
 
-fn priced_plan(text: &[u8], rate: u32, sweeps: u32) -> Result<u64, u32>
-    ensures { PlansPriced text.now rate sweeps result }
+fn priced_plan(text: &[u8], rate: u32, sweeps: u32) -> Result<u64, Refused>
+    ensures { PlansPriced text.now rate sweeps (numbered result) }
 {
-    let chain = match chain_in(text) {
-        Ok(chain) => chain,
-        Err(refusal) => return Err(refusal.number()),
-    };
-    let tariff = match Priced::new(rate) {
-        Ok(tariff) => tariff,
-        Err(refusal) => return Err(refusal.number()),
-    };
-    match plan_priced(&chain, &tariff, sweeps) {
-        Ok(told) => Ok(told),
-        Err(refusal) => Err(refusal.number()),
-    }
+    let chain = chain_in(text)?;
+    let tariff = Priced::new(rate)?;
+    Ok(told_plan(&chain, &tariff, sweeps)?)
 }
 
-fn air_first_plan(text: &[u8], sweeps: u32) -> Result<u64, u32>
-    ensures { PlansAirFirst text.now sweeps result }
+fn air_first_plan(text: &[u8], sweeps: u32) -> Result<u64, Refused>
+    ensures { PlansAirFirst text.now sweeps (numbered result) }
 {
-    let chain = match chain_in(text) {
-        Ok(chain) => chain,
-        Err(refusal) => return Err(refusal.number()),
-    };
-    match plan_air_first(&chain, sweeps) {
-        Ok(told) => Ok(told),
-        Err(refusal) => Err(refusal.number()),
-    }
+    let chain = chain_in(text)?;
+    Ok(told_plan(&chain, &AirFirst, sweeps)?)
 }
 
-fn tell(found: Result<u64, u32>, answer: &mut u64) -> u32
-    ensures { Told found answer.old answer.new result }
+// The refusal becomes its number here, at the edge of the C interface.
+fn tell(found: Result<u64, Refused>, answer: &mut u64) -> u32
+    ensures { Told (numbered found) answer.old answer.new result }
 {
     match found {
         Ok(number) => {
             *answer = number;
             DONE
         }
-        Err(number) => number,
+        Err(refused) => refused.number(),
     }
 }
 

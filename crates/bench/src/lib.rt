@@ -6,3 +6,4 @@ mod asking;
 pub mod exports;
 mod mixing;
 mod planning;
+mod refusal;

@@ -19,7 +19,7 @@ pub(crate) fn mix(digest: u64, number: u64) -> u64
 pub(crate) fn mix_flag(digest: u64, flag: bool) -> u64
     ensures { result ≡ with_flag digest flag }
 {
-    if flag { mix(digest, 1) } else { mix(digest, 0) }
+    mix(digest, u64::from(flag))
 }
 
 pub(crate) fn mix_bill(digest: u64, bill: Option<Bill>) -> u64

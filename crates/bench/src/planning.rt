@@ -1,5 +1,7 @@
 // Whole plans, each told as one number.
-ghost use Rattle.std.specs.Prelude.{◌≡◌, map, fold};
+ghost use Rattle.std.specs.Prelude.{◌≡◌, ◌*◌, ◌^◌, ◌<◌, map, fold};
+ghost use Rattle.std.specs.Mem.{type_size};
+ghost use Rattle.interface.specs.Limits.{most_states};
 ghost use Rattle.tariffs.specs.AirFirst.{air_first_scale};
 ghost use Rattle.tariffs.specs.Priced.{priced_scale};
 ghost use Rattle.bench.specs.Digests.{mix as the_mix};
@@ -16,7 +18,7 @@ use planner::refusal::Refusal;
 use tariffs::air_first::AirFirst;
 use tariffs::priced::Priced;
 
-// The digest with all places of an amount.
+// The digest with all places of an amount. A tariff is asked by numbers: there is no slice of places to go over.
 fn mix_amount<T: Tariff>(tariff: &T, before: u64, amount: T::Amount) -> u64
     ensures { result ≡ with_row (T.scale tariff.now).places before (T.Tariff.row amount) }
 {
@@ -30,21 +32,21 @@ fn mix_amount<T: Tariff>(tariff: &T, before: u64, amount: T::Amount) -> u64
 fn mix_values<T: Tariff>(tariff: &T, before: u64, values: &[T::Amount]) -> u64
     ensures { result ≡ fold (with_row (T.scale tariff.now).places) before (map T.Tariff.row values.now) }
 {
-    let mut digest = before;
-    for value in values {
-        digest = mix_amount(tariff, digest, *value);
-    }
-    digest
+    values.iter().fold(
+        before,
+        |digest, value| -> u64
+            ensures { result ≡ with_row (T.scale tariff.entry.now).places digest (T.Tariff.row value.now) }
+        { mix_amount(tariff, digest, *value) },
+    )
 }
 
 fn mix_policy(before: u64, policy: &[u16]) -> u64
     ensures { result ≡ fold the_mix before policy.now }
 {
-    let mut digest = before;
-    for portfolio in policy {
-        digest = mix(digest, u64::from(*portfolio));
-    }
-    digest
+    policy.iter().fold(
+        before,
+        |digest, portfolio| mix(digest, u64::from(*portfolio)),
+    )
 }
 
 // The claims, the values and the policy of a plan.
@@ -72,44 +74,31 @@ fn plan_into<P: Plant, T: Tariff>(
 ) -> Result<u64, Refusal>
     ensures { Plans T.Tariff.row (P.model plant.now) (T.scale tariff.now) sweeps (record { values = values.old; working = working.old; policy = policy.old }) (record { values = values.new; working = working.new; policy = policy.new }) result }
 {
-    match plan(plant, tariff, sweeps, values, working, policy) {
-        Ok(claims) => Ok(tell_plan(tariff, claims, values, policy)),
-        Err(refusal) => Err(refusal),
-    }
+    let claims = plan(plant, tariff, sweeps, values, working, policy)?;
+    Ok(tell_plan(tariff, claims, values, policy))
 }
 
-// A plan of a chain under the priced tariff, in tables of its own.
-pub(crate) fn plan_priced(chain: &Chain, tariff: &Priced, sweeps: u32) -> Result<u64, Refusal>
-    ensures { PlanMade cost_row (model_of chain.now) (priced_scale tariff.now.rate) sweeps result }
+// A plan, in tables of its own: of fixed size, since no allocator stands at the C interface.
+pub(crate) fn told_plan<P: Plant, T: Tariff>(
+    plant: &P,
+    tariff: &T,
+    sweeps: u32,
+) -> Result<u64, Refusal>
+    requires { most_states * type_size T.Amount.row < 2 ^ 63 }
+    ensures { PlanMade T.Tariff.row (P.model plant.now) (T.scale tariff.now) sweeps result }
 {
-    let states = chain.states();
+    let states = plant.states();
     let mut values = [tariff.zero(); MOST_STATES];
     let mut working = [tariff.zero(); MOST_STATES];
     let mut policy = [0; MOST_STATES];
+    let values = &mut values[..];
+    let working = &mut working[..];
     plan_into(
-        chain,
+        plant,
         tariff,
         sweeps,
-        &mut values[0..states],
-        &mut working[0..states],
-        &mut policy[0..states],
-    )
-}
-
-// The same under the air-first tariff.
-pub(crate) fn plan_air_first(chain: &Chain, sweeps: u32) -> Result<u64, Refusal>
-    ensures { PlanMade dark_row (model_of chain.now) air_first_scale sweeps result }
-{
-    let states = chain.states();
-    let mut values = [AirFirst.zero(); MOST_STATES];
-    let mut working = [AirFirst.zero(); MOST_STATES];
-    let mut policy = [0; MOST_STATES];
-    plan_into(
-        chain,
-        &AirFirst,
-        sweeps,
-        &mut values[0..states],
-        &mut working[0..states],
-        &mut policy[0..states],
+        &mut values[..states],
+        &mut working[..states],
+        &mut policy[..states],
     )
 }

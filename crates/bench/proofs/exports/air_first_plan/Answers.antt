@@ -1,11 +1,8 @@
-use Rattle.std.proofs.Common.{inl, inr}
+use Rattle.std.proofs.Common.{inr, refl}
+use Rattle.std.proofs.lemmas.Result.{err_from_is_err_and}
 use Rattle.bench.proofs.exports.air_first_plan.Goals as goal
 
-pub returns-in-Err : goal.returns-in-Err
-returns-in-Err c = inl (c.in-Err.refusal, c.in-Err.ensures, c.number.ensures)
-
-pub returns-in-Ok-plan_air_first : goal.returns-in-Ok-plan_air_first
-returns-in-Ok-plan_air_first c = (c.in-Ok.chain, c.in-Ok.ensures, c.in-Ok-plan_air_first.ensures)
-
-pub returns-in-Err-plan_air_first : goal.returns-in-Err-plan_air_first
-returns-in-Err-plan_air_first c = inr (c.in-Ok.chain, c.in-Ok.ensures, (c.in-Err-plan_air_first.refusal, c.in-Err-plan_air_first.ensures, c.number-in-Err-plan_air_first.ensures))
+pub returns-in_err-told_plan : goal.returns-in_err-told_plan
+returns-in_err-told_plan c =
+    let p = err_from_is_err_and c.from_residual-in_err-told_plan.result c.from_residual-in_err-told_plan.ensures.1 in
+    rw (p.1, p.2) (inr (c.in_ok-chain.chain, c.in_ok-chain.ensures, (c.in_err-told_plan.field-0.0, c.in_err-told_plan.ensures, refl)))

@@ -1,0 +1,53 @@
+// Why a call answers no number.
+ghost use Rattle.std.specs.Prelude.{◌≡◌};
+ghost use Rattle.bench.specs.Refusals.{number_of};
+ghost use Rattle.bench.specs.declared.refusal.Refused.TheVariants.{Text, Rate, Plan};
+
+use planner::refusal::Refusal;
+use reading::rules::ReadRefusal;
+use tariffs::refusal::Unpriced;
+
+// What refused the call.
+#[derive(Clone, Copy, PartialEq, Eq, Debug)]
+pub(crate) enum Refused {
+    Text(ReadRefusal),
+    Rate(Unpriced),
+    Plan(Refusal),
+}
+
+impl Refused {
+    // Its number among all refusals of the house.
+    pub(crate) fn number(self) -> u32
+        ensures { result ≡ number_of self }
+    {
+        match self {
+            Refused::Text(refusal) => refusal.number(),
+            Refused::Rate(refusal) => refusal.number(),
+            Refused::Plan(refusal) => refusal.number(),
+        }
+    }
+}
+
+impl From<ReadRefusal> for Refused {
+    ghost from_gives = { λ e r. r ≡ Text e };
+
+    fn from(refusal: ReadRefusal) -> Refused {
+        Refused::Text(refusal)
+    }
+}
+
+impl From<Unpriced> for Refused {
+    ghost from_gives = { λ e r. r ≡ Rate e };
+
+    fn from(refusal: Unpriced) -> Refused {
+        Refused::Rate(refusal)
+    }
+}
+
+impl From<Refusal> for Refused {
+    ghost from_gives = { λ e r. r ≡ Plan e };
+
+    fn from(refusal: Refusal) -> Refused {
+        Refused::Plan(refusal)
+    }
+}
