@@ -93,7 +93,7 @@ pub no_outcome : (n : PairNumbers) (s x k : ℕ) → pair_feasible n s x ≡ tru
 no_outcome n s x k test none = rw test (past (nat_lt k (all_states n)) none ∙ sym (nth_counting (outcome_by n (moved_by n s x)) (all_states n) k))
   where
     past : (b : Bool) → None ≡ cond b (Some (grades_in n k)) None → None ≡ cond b (Some (outcome_by n (moved_by n s x) k)) None
-    past true e = absurd (let z : ◌≡◌ {A = ℕ} 0 1 = cc in omega arith)
+    past true e = absurd (cc)
     past false e = refl
 
 -- and has the weight of the rows by which the units move otherwise
@@ -104,11 +104,11 @@ some_outcome n s x k w g test some weighs = rw test (inside (nat_lt k (all_state
     inside true e =
         let same : g ≡ grades_in n k = cc in
         ap (λ v. Some (record { next = k; weight = v })) (weighs ∙ ap (λ h. hundredths n.one (moved_by n s x).one h.one * hundredths n.two (moved_by n s x).two h.two) same)
-    inside false e = absurd (let z : ◌≡◌ {A = ℕ} 0 1 = cc in omega arith)
+    inside false e = absurd (cc)
 
 some_only : {X : Type 0} (b : Bool) (x y : X) → Some x ≡ cond b (Some y) None → (b ≡ true) × (x ≡ y)
 some_only true x y e = (refl, cc)
-some_only false x y e = let z : ◌≡◌ {A = ℕ} 0 1 = cc in absurd (omega arith)
+some_only false x y e = absurd (cc)
 
 -- the same by the rows that the state allows
 pub outcome_listed : (n : PairNumbers) (s x k : ℕ) (g : Grades) (r : Option Outcome) → Some g ≡ rows_of n s x → r ≡ cond (nat_lt k (all_states n)) (Some (outcome_by n g k)) None → r ≡ slice_get (outcomes_of (pair_model n) s x) k

@@ -1,11 +1,10 @@
 // The pair as a plant.
 ghost use Rattle.std.specs.Prelude.{◌≡◌, IfSome, MatchResult, is_some};
 ghost use Rattle.pair.specs.Laws.{PairLaws, SomePair};
-ghost use Rattle.pair.specs.Pairs.{LawfulTerms, LawfulNumbers, Renewable, ThresholdFigure, HasGrades, moved_by, pair_feasible, seconds_at, cents_at, pair_model};
+ghost use Rattle.pair.specs.Pairs.{LawfulNumbers, Renewable, ThresholdFigure, HasGrades, moved_by, pair_feasible, seconds_at, cents_at, pair_model};
 ghost use Rattle.pair.specs.Portfolios.{portfolio_number};
 ghost use Rattle.pair.specs.Refusals.{Refused};
 ghost use Rattle.pair.specs.States.{all_states, state_of, grades_in, grades_of, WithoutLoss};
-ghost use Rattle.pair.specs.Units.{LawfulGrades, NoReturn, LawfulCharges};
 ghost use Rattle.pair.specs.LawsLemmas.{pair_lawful};
 
 use crate::numbers::PairNumbers;
@@ -20,13 +19,7 @@ use interface::plant::{Bill, Outcome, Plant};
 #[derive(Clone, Copy)]
 pub struct Pair {
     numbers: PairNumbers,
-    ghost terms: { LawfulTerms numbers },
-    ghost one: { LawfulGrades numbers.one },
-    ghost one_no_return: { NoReturn numbers.one },
-    ghost one_charges: { LawfulCharges numbers.one },
-    ghost two: { LawfulGrades numbers.two },
-    ghost two_no_return: { NoReturn numbers.two },
-    ghost two_charges: { LawfulCharges numbers.two },
+    ghost lawful: { LawfulNumbers numbers },
     ghost renewable: { Renewable numbers },
 }
 
@@ -150,7 +143,7 @@ impl Pair {
 impl Plant for Pair {
     ghost model = { λ p. pair_model p.numbers };
 
-    ghost lawful = { λ p. pair_lawful p.numbers (p.terms, (p.one, p.one_no_return, p.one_charges), (p.two, p.two_no_return, p.two_charges)) p.renewable };
+    ghost lawful = { λ p. pair_lawful p.numbers p.lawful p.renewable };
 
     fn states(&self) -> usize {
         self.numbers.one.grades * self.numbers.two.grades

@@ -57,7 +57,7 @@ module _ (r next : PairReader) (h : Sound r) (text k v : List ℕ) (line : line_
 -- what was judged well
 judged_ok : (m n : PairNumbers) (line : ℕ) (t : Bool) → cond t (Ok m) (refused_at NoFullRenewal line) ≡ Ok n → (t ≡ true) × (m ≡ n)
 judged_ok m n line true e = (refl, cc)
-judged_ok m n line false e = let z : ◌≡◌ {A = ℕ} 0 1 = cc in absurd (omega arith)
+judged_ok m n line false e = absurd (cc)
 
 -- what comes of the text from here on, where it is accepted
 abbrev Goal : PairReader → List ℕ → PairNumbers → Reading → Type 0
@@ -91,15 +91,15 @@ module _ (n : PairNumbers) (further : PairReader → List ℕ → ℕ → Readin
         record { whole = sym behind_next ∙ w.whole; one = w.one; two = w.two }
 
   judged_line : (k v : List ℕ) → line_at text ≡ pair k v → (s : Step) → pair_step r (key_of k) v ≡ s → Goal r text n (on_step further s (rest_at text) (place + 1))
-  judged_line k v line (Err rule) made e = let z : ◌≡◌ {A = ℕ} 0 1 = cc in absurd (omega arith)
+  judged_line k v line (Err rule) made e = absurd (cc)
   judged_line k v line (Ok next) made e = stepped k v line next made (complete next.stage) refl e
 
   read_line_goal : (s : Said) → line_at text ≡ s → Goal r text n (on_line further r text place s)
-  read_line_goal (fault m) line e = let z : ◌≡◌ {A = ℕ} 0 1 = cc in absurd (omega arith)
+  read_line_goal (fault m) line e = absurd (cc)
   read_line_goal (pair k v) line e = judged_line k v line (pair_step r (key_of k) v) refl e
 
 wrote : (fuel : ℕ) (n : PairNumbers) (r : PairReader) (text : List ℕ) (place : ℕ) → Sound r → Goal r text n (read_from fuel r text place)
-wrote zero n r text place h e = let z : ◌≡◌ {A = ℕ} 0 1 = cc in absurd (omega arith)
+wrote zero n r text place h e = absurd (cc)
 wrote (suc fuel) n r text place h e = read_line_goal n (read_from fuel) (λ q t p s. wrote fuel n q t p s) r h text place (line_at text) refl e
 
 pub accepted_wrote : (text : List ℕ) (place : ℕ) (n : PairNumbers) → (read_pair text place).answer ≡ Ok n → Wrote fresh text (read_pair text place).rest n

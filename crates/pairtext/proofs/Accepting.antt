@@ -4,7 +4,7 @@ use Rattle.std.specs.List.{AllByRecursion}
 use Rattle.std.proofs.lemmas.List.{append_assoc, at_drop_more, at_drop_all, get_or_append_left, get_or-map, get_or-take, length-append, length-drop, length-map, length-take-le, take_all}
 use Rattle.std.proofs.lemmas.Bool.{cases_lt, leb-true, ltb-true, eq-eqb, ne_eqb, cond-true, cond-false}
 use Rattle.lines.specs.Fields.{joined}
-use Rattle.lines.specs.Line.{Printable, rest_at}
+use Rattle.lines.specs.Line.{Printable, pair, rest_at}
 use Rattle.lines.proofs.DigitLaws.{decimal_printable}
 use Rattle.reading.specs.Keys.{name_of}
 use Rattle.reading.specs.Values.{number_between}
@@ -84,7 +84,7 @@ module _ (g : Reading) where
   comes_line : (r next : PairReader) (key : Key) (v more : List ℕ) → ltb 0 (length (name_of key)) ≡ true → AllByRecursion Printable v → length v ≤ widest_value → StepTo r key v next → Comes r (line_of key v ++ more) → Comes next more
   comes_line r next key v more some bytes short step (place, h) =
       let named : (key ≡ NoKey → ⊥) = some_name key some in
-      (place + 1, goes_at next (rest_at (line_of key v ++ more)) more (place + 1) (place + 1) g (written_rest key named v more bytes short) refl (goes_on r (line_of key v ++ more) place g (name_of key) v (sym (written_line key named v more bytes short)) next (ap (λ k. pair_step r k v) (key_of_name key) ∙ step.0) step.1 h))
+      (place + 1, goes_at next (rest_at (line_of key v ++ more)) more (place + 1) (place + 1) g (written_rest key named v more bytes short) refl (goes_on r (line_of key v ++ more) place g (pair (name_of key) v) (sym (written_line key named v more bytes short)) next (ap (λ k. pair_step r k v) (key_of_name key) ∙ step.0) step.1 h))
 
   comes_number : (r next : PairReader) (key : Key) (m : ℕ) (more : List ℕ) → ltb 0 (length (name_of key)) ≡ true → m < 2 ^ 64 → StepTo r key (decimal m) next → Comes r (number_line key m ++ more) → Comes next more
   comes_number r next key m more some small step c = comes_line r next key (decimal m) more some (decimal_printable m small) (number_short m small) step c
@@ -188,7 +188,7 @@ module _ (g : Reading) where
       let named : (End ≡ NoKey → ⊥) = some_name End refl in
       let bytes : AllByRecursion Printable (codes "plant") = (plain_bytes (codes "plant") refl).1 in
       let short : length (codes "plant") ≤ widest_value = leb-true (length (codes "plant")) widest_value refl in
-      let is = goes_closed (st n.threshold n.setup n.inspect EndDue Two n.two n.one k) (line_of End (codes "plant") ++ after) place g (name_of End) (codes "plant") (sym (written_line End named (codes "plant") after bytes short)) (st n.threshold n.setup n.inspect Complete Two n.two n.one k) refl refl h in
+      let is = goes_closed (st n.threshold n.setup n.inspect EndDue Two n.two n.one k) (line_of End (codes "plant") ++ after) place g (pair (name_of End) (codes "plant")) (sym (written_line End named (codes "plant") after bytes short)) (st n.threshold n.setup n.inspect Complete Two n.two n.one k) refl refl h in
       (ap (λ (z : Reading). z.answer) is ∙ cond-true _ _ _ r, ap (λ (z : Reading). z.rest) is ∙ written_rest End named (codes "plant") after bytes short)
 
   -- the whole text

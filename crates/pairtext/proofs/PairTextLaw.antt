@@ -14,11 +14,11 @@ abbrev Good : PairNumbers → Type 0
 Good n = LawfulNumbers n × Renewable n
 
 pair_good : (p : Pair) → Good p.numbers
-pair_good p = ((p.terms, (p.one, p.one_no_return, p.one_charges), (p.two, p.two_no_return, p.two_charges)), p.renewable)
+pair_good p = (p.lawful, p.renewable)
 
 answer_good : (r : Result Pair ReadRefusal) (n : PairNumbers) → answered r ≡ Ok n → Good n
 answer_good (Ok p) n e = let same : p.numbers ≡ n = cc in subst Good same (pair_good p)
-answer_good (Err refusal) n e = let z : ◌≡◌ {A = ℕ} 0 1 = cc in absurd (omega arith)
+answer_good (Err refusal) n e = absurd (cc)
 
 pub pair_text_law : (text : List ℕ) (place : ℕ) (r : Result Pair ReadRefusal) (rest : List ℕ) → answered r ≡ (read_pair text place).answer → rest ≡ (read_pair text place).rest → ReadsPair text (answered r) rest
 pair_text_law text place r rest answer behind n after = (

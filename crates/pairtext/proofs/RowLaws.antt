@@ -1,54 +1,35 @@
 -- A row that was read is lawful.
-use Rattle.std.proofs.Common.{◌≡◌, ℕ, zero, suc, ◌+◌, ◌-◌, ◌<◌, ◌≤◌, Bool, true, false, cond, eqb, List, [], ◌∷◌, ◌++◌, map, length, get_or, take, drop, set, replicate, Some, None, decimal, sum, Option, sym, refl, ap, ◌∙◌, subst, ⊎_elim, arith}
+use Rattle.std.proofs.Common.{◌≡◌, ℕ, ◌+◌, ◌-◌, ◌<◌, ◌≤◌, Bool, true, false, cond, eqb, nat_le, List, [], ◌∷◌, ◌++◌, map, length, get_or, take, drop, set, replicate, Some, None, decimal, sum, Option, sym, refl, ap, ◌∙◌, subst, arith}
 use Rattle.std.specs.List.{AllByRecursion}
+use Rattle.std.specs.Option.{option_map}
 use Rattle.std.proofs.ByRecursion.{All-from_get_or}
-use Rattle.std.proofs.lemmas.List.{append_assoc, take_all, take_at, take_more, take_more_set, drop_more, get_or_past, get_or-take, get_or-replicate, drop-replicate, set_at, length-map, length-append, length-drop, length-take, length-take-le, map_push}
-use Rattle.std.proofs.lemmas.List.Sums.{sum_by-cons, sum_by-append, sum_by_more, get_or-le-sum_by}
-use Rattle.std.proofs.lemmas.Bool.{cases_lt, eqb-true, eq-eqb, and_parts, and_from, cond-true}
+use Rattle.std.proofs.lemmas.List.{append_assoc, take_at, take_more, take_more_set, drop_more, get_or-take, get_or-replicate, length-replicate, set_at, length-map, length-append, length-take, length-take-le, map_push}
+use Rattle.std.proofs.lemmas.List.Folds.{sum_by-replicate}
+use Rattle.std.proofs.lemmas.List.Sums.{sum_by-append, get_or-le-sum_by}
+use Rattle.std.proofs.lemmas.Bool.{eqb-true, eq-eqb, and_parts, and_from, cond-true, le-leb}
 use Rattle.lines.specs.Fields.{joined}
 use Rattle.lines.specs.Line.{Printable}
 use Rattle.reading.specs.Values.{list_of}
 use Rattle.reading.proofs.ValueLaws.{list_law}
 use Rattle.reading.proofs.WrittenLaws.{widest_value, list_printable, list_short}
 use Rattle.pair.specs.Limits.{hundred, most_grades}
-use Rattle.pair.specs.Units.{over_grades}
+use Rattle.pair.specs.Units.{over_grades, all_zero}
+use Rattle.pair.proofs.Rows.{over_take, zero_at, zero_from}
 use Rattle.pairtext.specs.Readers.{blank_row, blank_rows}
-use Rattle.pairtext.specs.Rows.{all_zero, adds_up, padded, tested, row_of}
+use Rattle.pairtext.specs.Rows.{adds_up, padded, tested, row_of}
 use Rattle.pairtext.specs.Sound.{laid}
 
 -- the law of a row of grade g in a unit of so many grades, over its numbers alone
 abbrev pub RowLaw : List ℕ → ℕ → ℕ → Type 0
 RowLaw hs g grades = (over_grades (λ h. get_or hs (h - 1) 0) grades ≡ hundred) × ((h : ℕ) → 1 ≤ h → h < g → get_or hs (h - 1) 0 ≡ 0)
 
-over_take : (hs : List ℕ) (n : ℕ) → over_grades (λ h. get_or hs (h - 1) 0) n ≡ sum (take n hs)
-over_take hs zero = refl
-over_take hs (suc n) =
-    let back : (n + 1) - 1 ≡ n = omega arith in
-    let one : suc n ≡ n + 1 = omega arith in
-    let here : get_or hs ((n + 1) - 1) 0 ≡ get_or hs n 0 = ap (λ k. get_or hs k 0) back in
-    let next : take (suc n) hs ≡ take (n + 1) hs = ap (λ k. take k hs) one in
-    ⊎_elim
-    (λ (l : n < length hs). omega (arith, over_take hs n, here, ap sum next, sum_by_more (λ x. x) hs n 0 l))
-    (λ (l : length hs ≤ n). omega (arith, over_take hs n, here, get_or_past hs n 0 l, ap sum (take_all n hs l), ap sum (take_all (suc n) hs (omega arith))))
-    (cases_lt n (length hs))
-
-sum_zeros : (n : ℕ) → sum (replicate n 0) ≡ 0
-sum_zeros zero = refl
-sum_zeros (suc n) = sum_by-cons (λ x. x) 0 (replicate n 0) ∙ omega (arith, sum_zeros n)
-
-zero_at : (hs : List ℕ) (k : ℕ) → all_zero hs ≡ true → get_or hs k 0 ≡ 0
-zero_at [] k e = refl
-zero_at (h ∷ hs) zero e = eqb-true h 0 (and_parts _ _ e).0
-zero_at (h ∷ hs) (suc k) e = zero_at hs k (and_parts _ _ e).1
-
 -- what a test of a row says
 pub row_law : (own : ℕ) (ns : List ℕ) → adds_up own (padded ns) ≡ true → RowLaw (padded ns) (own + 1) (length ns)
 row_law own ns e =
     let parts : (eqb (sum (padded ns)) hundred ≡ true) × (all_zero (take own (padded ns)) ≡ true) = and_parts _ _ e in
-    let zeros : drop (length ns) blank_row ≡ replicate (most_grades - length ns) 0 = drop-replicate (length ns) most_grades 0 in
-    let whole : sum (padded ns) ≡ sum ns + sum (drop (length ns) blank_row) = sum_by-append (λ x. x) ns (drop (length ns) blank_row) in
-    let front : sum (take (length ns) (padded ns)) ≡ sum ns = ap sum (take_at ns (drop (length ns) blank_row) (length ns) refl) in (
-      omega (arith, over_take (padded ns) (length ns), front, whole, ap sum zeros, sum_zeros (most_grades - length ns), eqb-true _ hundred parts.0),
+    let whole : sum (padded ns) ≡ sum ns + sum (replicate (most_grades - length ns) 0) = sum_by-append (λ x. x) ns (replicate (most_grades - length ns) 0) in
+    let front : sum (take (length ns) (padded ns)) ≡ sum ns = ap sum (take_at ns (replicate (most_grades - length ns) 0) (length ns) refl) in (
+      omega (arith, over_take (padded ns) (length ns), front, whole, sum_by-replicate (λ x. x) (most_grades - length ns) 0, eqb-true _ hundred parts.0),
       (λ h low high. let below : h - 1 < own = omega arith in sym (get_or-take own (padded ns) (h - 1) 0 below) ∙ zero_at (take own (padded ns)) (h - 1) parts.1),
     )
 
@@ -61,15 +42,16 @@ pub record RowRead (value : List ℕ) (grades own : ℕ) (hs : List ℕ) : Type 
   pub is : hs ≡ padded ns
 
 pub row_read : (value : List ℕ) (grades own : ℕ) (hs : List ℕ) → row_of value grades own ≡ Some hs → RowRead value grades own hs
-row_read value grades own hs e = found (list_of value hundred grades) refl e
+row_read value grades own hs e = roomy (nat_le grades most_grades) (list_of value hundred grades) refl e
   where
-    found : (o : Option (List ℕ)) → list_of value hundred grades ≡ o → tested own o ≡ Some hs → RowRead value grades own hs
-    found None q e = let z : ◌≡◌ {A = ℕ} 0 1 = cc in absurd (omega arith)
-    found (Some ns) q e = passed (adds_up own (padded ns)) refl e
-      where
-        passed : (t : Bool) → adds_up own (padded ns) ≡ t → cond t (Some (padded ns)) None ≡ Some hs → RowRead value grades own hs
-        passed false p e = let z : ◌≡◌ {A = ℕ} 0 1 = cc in absurd (omega arith)
-        passed true p e = record { ns = ns; listed = q; long = ((list_law value hundred grades (omega arith) ns).0 q).2; test = p; is = cc }
+    passed : (ns : List ℕ) → list_of value hundred grades ≡ Some ns → (t : Bool) → adds_up own (padded ns) ≡ t → cond t (Some (padded ns)) None ≡ Some hs → RowRead value grades own hs
+    passed ns q false p e = absurd (cc)
+    passed ns q true p e = record { ns = ns; listed = q; long = ((list_law value hundred grades (omega arith) ns).0 q).2; test = p; is = cc }
+
+    roomy : (b : Bool) (o : Option (List ℕ)) → list_of value hundred grades ≡ o → tested own (cond b (option_map padded o) None) ≡ Some hs → RowRead value grades own hs
+    roomy false o q e = absurd (cc)
+    roomy true None q e = absurd (cc)
+    roomy true (Some ns) q e = passed ns q (adds_up own (padded ns)) refl e
 
 pub read_row_law : (value : List ℕ) (grades own : ℕ) (hs : List ℕ) → row_of value grades own ≡ Some hs → RowLaw hs (own + 1) grades
 read_row_law value grades own hs e =
@@ -80,7 +62,7 @@ read_row_law value grades own hs e =
 pub read_row_form : (value : List ℕ) (grades own : ℕ) (hs : List ℕ) → row_of value grades own ≡ Some hs → hs ≡ padded (take grades hs)
 read_row_form value grades own hs e =
     let r = row_read value grades own hs e in
-    r.is ∙ ap padded (sym (take_at r.ns (drop (length r.ns) blank_row) grades r.long) ∙ ap (take grades) (sym r.is))
+    r.is ∙ ap padded (sym (take_at r.ns (replicate (most_grades - length r.ns) 0) grades r.long) ∙ ap (take grades) (sym r.is))
 
 -- one row more in a table with zeros everywhere else
 module _ (k grades : ℕ) (room : k < most_grades) where
@@ -113,13 +95,9 @@ laid_next rows k grades room inside =
     put_next k grades room (map (form k grades room) (take k rows)) (padded (take grades (get_or rows k []))) (length_front k grades room rows low) ∙ sym (grown k grades room (take k rows) (get_or rows k [])) ∙ sym (ap (λ l. map (form k grades room) l ++ drop (k + 1) blank_rows) (take_more rows k [] inside))
 
 -- a row with zeros behind its grades that is lawful is read back from its text
-zero_from : (hs : List ℕ) → ((i : ℕ) → i < length hs → get_or hs i 0 ≡ 0) → all_zero hs ≡ true
-zero_from [] h = refl
-zero_from (x ∷ hs) h = and_from _ _ (eq-eqb x 0 (h 0 (omega arith))) (zero_from hs (λ i l. h (suc i) (omega arith)))
-
 module _ (row : List ℕ) (grades own : ℕ) (some : 0 < grades) (most : grades ≤ most_grades) (law : RowLaw row (own + 1) grades) (form_of : row ≡ padded (take grades row)) where
   padded_long : (hs : List ℕ) → length hs ≤ most_grades → length (padded hs) ≡ most_grades
-  padded_long hs l = length-append hs (drop (length hs) blank_row) ∙ omega (arith, length-drop (length hs) blank_row)
+  padded_long hs l = length-append hs (replicate (most_grades - length hs) 0) ∙ omega (arith, length-replicate {A = ℕ} (most_grades - length hs) 0)
 
   row_long : length (take grades row) ≡ grades
   row_long =
@@ -136,9 +114,8 @@ module _ (row : List ℕ) (grades own : ℕ) (some : 0 < grades) (most : grades 
   row_adds_up : adds_up own (padded (take grades row)) ≡ true
   row_adds_up =
       let hs : List ℕ = take grades row in
-      let zeros : drop (length hs) blank_row ≡ replicate (most_grades - length hs) 0 = drop-replicate (length hs) most_grades 0 in
-      let whole : sum (padded hs) ≡ sum hs + sum (drop (length hs) blank_row) = sum_by-append (λ x. x) hs (drop (length hs) blank_row) in
-      let total : sum (padded hs) ≡ hundred = omega (arith, whole, ap sum zeros, sum_zeros (most_grades - length hs), row_sum) in
+      let whole : sum (padded hs) ≡ sum hs + sum (replicate (most_grades - length hs) 0) = sum_by-append (λ x. x) hs (replicate (most_grades - length hs) 0) in
+      let total : sum (padded hs) ≡ hundred = omega (arith, whole, sum_by-replicate (λ x. x) (most_grades - length hs) 0, row_sum) in
       let front : all_zero (take own row) ≡ true = zero_from (take own row) before_own in
       and_from _ _ (eq-eqb _ hundred total) (ap (λ l. all_zero (take own l)) (sym form_of) ∙ front)
     where
@@ -151,7 +128,8 @@ module _ (row : List ℕ) (grades own : ℕ) (some : 0 < grades) (most : grades 
   pub row_back : row_of (joined (map decimal (take grades row))) grades own ≡ Some (padded (take grades row))
   row_back =
       let listed : list_of (joined (map decimal (take grades row))) hundred grades ≡ Some (take grades row) = (list_law (joined (map decimal (take grades row))) hundred grades (omega arith) (take grades row)).1 (refl, some, row_long, row_within) in
-      ap (tested own) listed ∙ cond-true _ _ _ row_adds_up
+      let room : nat_le grades most_grades ≡ true = le-leb grades most_grades most in
+      ap (λ o. tested own (cond (nat_le grades most_grades) (option_map padded o) None)) listed ∙ ap (tested own) (cond-true _ _ _ room) ∙ cond-true _ _ _ row_adds_up
 
   -- and its text fits a line
   pub row_printable : AllByRecursion Printable (joined (map decimal (take grades row)))

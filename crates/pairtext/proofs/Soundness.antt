@@ -3,6 +3,8 @@ use Rattle.std.proofs.Common.{◌≡◌, ℕ, zero, suc, ◌+◌, ◌-◌, ◌^�
 use Rattle.std.specs.Str.{bytes_eq}
 use Rattle.std.proofs.lemmas.List.{length-set, get_or-set_same, get_or-set_other}
 use Rattle.std.proofs.lemmas.Bool.{cases_eq, eqb-true, eqb-false}
+use Rattle.lines.specs.Line.{Said, pair, fault}
+use Rattle.reading.specs.Keys.{key_of}
 use Rattle.reading.specs.Values.{number_between}
 use Rattle.reading.specs.declared.keys.Key.{Key}
 use Rattle.reading.specs.declared.rules.Rule.TheVariants.{Unexpected}
@@ -20,12 +22,12 @@ use Rattle.pairtext.specs.Readers.{unit_index, no_unit, opened_unit, fresh, with
 use Rattle.pairtext.specs.Rows.{padded, row_of}
 use Rattle.pairtext.specs.Sound.{Graded, WhollyGraded, Kept, Other, Here, Sound}
 use Rattle.pairtext.specs.Texts.{numbers_read}
-use Rattle.pairtext.specs.Steps.{Step, on, on_word, behind_unit, take_at, pair_step, is_due}
+use Rattle.pairtext.specs.Steps.{Step, on, on_word, behind_unit, take_at, pair_step, line_step, is_due}
 use Rattle.pairtext.proofs.RowLaws.{RowLaw, read_row_law, read_row_form, laid_more}
 
 -- a step that was made
 pub on_made : {X : Type 0} (o : Option X) (f : X → PairReader) (next : PairReader) → on o f ≡ Ok next → (x : X) × ((o ≡ Some x) × (f x ≡ next))
-on_made None f next e = let z : ◌≡◌ {A = ℕ} 0 1 = cc in absurd (omega arith)
+on_made None f next e = absurd (cc)
 on_made (Some x) f next e = (x, (refl, cc))
 
 pub word_made : (value word : List ℕ) (r next : PairReader) → on_word value word r ≡ Ok next → (bytes_eq value word ≡ true) × (r ≡ next)
@@ -33,7 +35,7 @@ word_made value word r next e = tested (bytes_eq value word) refl e
   where
     tested : (t : Bool) → bytes_eq value word ≡ t → cond t (Ok r) (Err Unexpected) ≡ Ok next → (bytes_eq value word ≡ true) × (r ≡ next)
     tested true q e = (q, cc)
-    tested false q e = let z : ◌≡◌ {A = ℕ} 0 1 = cc in absurd (omega arith)
+    tested false q e = absurd (cc)
 
 -- the table of both units with one of them put in
 pub index_within : (n : UnitName) → unit_index n < 2
@@ -187,15 +189,20 @@ module _ (r : PairReader) (h : Sound r) (value : List ℕ) (next : PairReader) w
   sound_at EndDue now e =
       let m = word_made value _ (at_stage Complete r) next e in
       subst Sound m.1 (same_sound r (at_stage Complete r) h h.threshold h.setup h.inspect refl refl now)
-  sound_at Complete now e = let z : ◌≡◌ {A = ℕ} 0 1 = cc in absurd (omega arith)
+  sound_at Complete now e = absurd (cc)
 
 -- a step that was made: its key was due
 pub due_made : (t : Bool) (taken : Step) (next : PairReader) → cond t taken (Err Unexpected) ≡ Ok next → (t ≡ true) × (taken ≡ Ok next)
 due_made true taken next e = (refl, e)
-due_made false taken next e = let z : ◌≡◌ {A = ℕ} 0 1 = cc in absurd (omega arith)
+due_made false taken next e = absurd (cc)
 
 pub step_sound : (r next : PairReader) (key : Key) (value : List ℕ) → Sound r → pair_step r key value ≡ Ok next → Sound next
 step_sound r next key value h e = sound_at r h value next r.stage h.here (due_made (is_due r.stage key) (take_at r.stage r value) next e).1
+
+-- the same by what a line says
+pub line_sound : (r next : PairReader) (s : Said) → Sound r → line_step r s ≡ Ok next → Sound next
+line_sound r next (pair k v) h e = step_sound r next (key_of k) v h e
+line_sound r next (fault n) h e = absurd (cc)
 
 -- nothing was read, so nothing is out of range
 pub fresh_sound : Sound fresh

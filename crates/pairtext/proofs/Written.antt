@@ -1,5 +1,5 @@
 -- What was read so far is what was written: the lines behind a reader, by its stage.
-use Rattle.std.proofs.Common.{◌≡◌, ℕ, ◌+◌, ◌-◌, ◌^◌, ◌<◌, Bool, true, false, cond, eqb, List, [], ◌∷◌, ◌++◌, map, length, get_or, take, drop, set, Some, Ok, codes, decimal, sym, refl, ap, ◌∙◌, subst, arith}
+use Rattle.std.proofs.Common.{◌≡◌, ℕ, ◌+◌, ◌-◌, ◌^◌, ◌<◌, Bool, true, false, cond, eqb, List, [], ◌∷◌, ◌++◌, map, length, get_or, take, set, replicate, Some, Ok, codes, decimal, sym, refl, ap, ◌∙◌, subst, arith}
 use Rattle.std.proofs.lemmas.Slice.Eq.{bytes_eq-Decides}
 use Rattle.std.proofs.lemmas.List.{append_assoc, append-nil, take_at as FrontAt, take_more_set, get_or-set_other}
 use Rattle.std.proofs.lemmas.Bool.{eqb-true}
@@ -16,7 +16,7 @@ use Rattle.pairtext.specs.declared.stage.Stage.{Stage}
 use Rattle.pairtext.specs.declared.stage.Stage.TheVariants.{KindDue, ThresholdDue, SetupDue, InspectDue, UnitDue, GradesDue, RowDue, PlannedDue, ForcedDue, DarkDue, EndDue, Complete}
 use Rattle.pairtext.specs.declared.stage.UnitName.{UnitName}
 use Rattle.pairtext.specs.declared.stage.UnitName.TheVariants.{One, Two}
-use Rattle.pairtext.specs.Readers.{unit_number, unit_index, blank_row, no_unit, opened_unit, with_grades, with_row, with_planned, with_forced, with_dark, at_stage, with_unit, at_row}
+use Rattle.pairtext.specs.Readers.{unit_number, unit_index, no_unit, opened_unit, with_grades, with_row, with_planned, with_forced, with_dark, at_stage, with_unit, at_row}
 use Rattle.pairtext.specs.Rows.{row_of}
 use Rattle.pairtext.specs.Sound.{Here, Sound}
 use Rattle.pairtext.specs.Steps.{behind_unit, due, take_at}
@@ -87,7 +87,7 @@ module _ (r : PairReader) (h : Sound r) (value : List ℕ) where
   row_text : (hs : List ℕ) → (k : ℕ) → k ≡ r.row + 1 → r.row < length (opened_unit r).rows → row_of value (opened_unit r).grades r.row ≡ Some hs → upto (terms r ++ before r.opened r.units) r.opened (with_row r.row hs (opened_unit r)) k ≡ text_at RowDue r ++ line_of Row value
   row_text hs k last inside e =
       let q = row_read value (opened_unit r).grades r.row hs e in
-      let cut : take (opened_unit r).grades hs ≡ q.ns = ap (take (opened_unit r).grades) q.is ∙ FrontAt q.ns (drop (length q.ns) blank_row) (opened_unit r).grades q.long in
+      let cut : take (opened_unit r).grades hs ≡ q.ns = ap (take (opened_unit r).grades) q.is ∙ FrontAt q.ns (replicate (most_grades - length q.ns) 0) (opened_unit r).grades q.long in
       let is : joined (map decimal (take (opened_unit r).grades hs)) ≡ value = ap (λ ns. joined (map decimal ns)) cut ∙ sym ((list_law value hundred (opened_unit r).grades (omega arith) q.ns).0 q.listed).0 in
       let more : row_lines (opened_unit r).grades (take k (set (opened_unit r).rows r.row hs)) ≡ row_lines (opened_unit r).grades (take r.row (opened_unit r).rows) ++ line_of Row value = ap (λ j. row_lines (opened_unit r).grades (take j (set (opened_unit r).rows r.row hs))) last ∙ ap (row_lines (opened_unit r).grades) (take_more_set (opened_unit r).rows r.row hs inside) ∙ rows_push (opened_unit r).grades (take r.row (opened_unit r).rows) hs ∙ ap (λ v. row_lines (opened_unit r).grades (take r.row (opened_unit r).rows) ++ line_of Row v) is in
       ap (λ l. (((terms r ++ before r.opened r.units) ++ number_line UnitKey (unit_number r.opened)) ++ number_line Grades (opened_unit r).grades) ++ l) more ∙ sym (append_assoc (text_at GradesDue r ++ number_line Grades (opened_unit r).grades) (row_lines (opened_unit r).grades (take r.row (opened_unit r).rows)) (line_of Row value))
@@ -171,4 +171,4 @@ module _ (r : PairReader) (h : Sound r) (value : List ℕ) where
   made_text EndDue next now e =
       let m = word_made value (codes "plant") (at_stage Complete r) next e in
       subst (λ q. text_at q.stage q ≡ text_at EndDue r ++ line_of End value) m.1 (ap (λ v. text_at EndDue r ++ line_of End v) (sym ((bytes_eq-Decides value (codes "plant")).0 m.0)))
-  made_text Complete next now e = let z : ◌≡◌ {A = ℕ} 0 1 = cc in absurd (omega arith)
+  made_text Complete next now e = absurd (cc)

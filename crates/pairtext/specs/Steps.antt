@@ -1,7 +1,9 @@
 -- One line of a pair's text: what the reader makes of its key and its value.
 use Rattle.std.specs.Prelude.{ℕ, ◌+◌, Bool, cond, List, Some, None, Ok, Err, codes, Option, Result, ◌==◌}
 use Rattle.std.specs.Str.{bytes_eq}
-use Rattle.reading.specs.Keys.{name_of}
+use Rattle.lines.specs.Line.{Said, pair, fault}
+use Rattle.reading.specs.Keys.{name_of, key_of}
+use Rattle.reading.specs.Rules.{fault_rule}
 use Rattle.reading.specs.Values.{number_between}
 use Rattle.reading.specs.declared.keys.Key.{Key}
 use Rattle.reading.specs.declared.keys.Key.TheVariants.{Kind, Threshold, Setup, Inspect, Unit as UnitKey, Grades, Row, Planned, Forced, Dark, End, Other}
@@ -106,6 +108,11 @@ is_due stage key = bytes_eq (name_of key) (name_of (due stage))
 -- one line: another key than the one due is refused before its value is looked at
 abbrev pub pair_step : PairReader → Key → List ℕ → Step
 pair_step r key value = cond (is_due r.stage key) (take_at r.stage r value) (Err Unexpected)
+
+-- what is read of a line: a key with its value is taken, and a fault breaks its rule
+abbrev pub line_step : PairReader → Said → Step
+line_step r (pair key value) = pair_step r (key_of key) value
+line_step r (fault n) = Err (fault_rule n)
 
 -- what a step answers, and the reader after it: a refused step leaves it as it was
 abbrev pub answer_of : Step → Result (Unit {0}) Rule

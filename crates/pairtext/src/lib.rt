@@ -1,7 +1,6 @@
 // The reader of a pair's text.
 #![tactic(auto)]
 
-mod filling;
 pub mod reader;
 mod rows;
 pub mod stage;

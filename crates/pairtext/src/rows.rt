@@ -1,38 +1,26 @@
 // The rows of hundredths.
-ghost use Rattle.std.specs.Prelude.{◌≡◌, ◌≤◌, sum};
+ghost use Rattle.std.specs.Prelude.{◌≡◌, ◌≤◌, length};
 ghost use Rattle.pair.specs.Limits.{most_grades};
-ghost use Rattle.pairtext.specs.Rows.{all_zero, adds_up, row_of};
+ghost use Rattle.pair.specs.Units.{all_zero};
+ghost use Rattle.pairtext.specs.Rows.{adds_up, row_of};
 
 use pair::limits::{HUNDRED, MOST_GRADES};
-use reading::values::read_list;
+use reading::values::number_list;
 
 fn all_zero(hundredths: &[u32]) -> bool
     ensures { result ≡ all_zero hundredths.now }
 {
-    for h in hundredths {
-        if *h != 0 {
-            return false;
-        }
-    }
-    true
+    hundredths.iter().all(|h| *h == 0)
 }
 
-fn total(row: &[u32; MOST_GRADES]) -> u64
-    ensures { result ≡ sum row.now }
-{
-    let mut total = 0;
-    for i in 0..MOST_GRADES {
-        total += u64::from(row[i]);
-    }
-    total
-}
-
-// Whether a row adds up to 100, and has zeros before index `own`.
-fn adds_up(row: &[u32; MOST_GRADES], own: usize) -> bool
-    requires { own ≤ most_grades }
+// Whether a row adds up to 100, and has zeros before index `own`. The pair's own test of a row stays private: it asks
+// for a length, which no public function may.
+fn adds_up(row: &[u32], own: usize) -> bool
+    requires { (length row.now ≤ most_grades) × (own ≤ length row.now) }
     ensures { result ≡ adds_up own row.now }
 {
-    total(row) == u64::from(HUNDRED) && all_zero(&row[0..own])
+    let total: u64 = row.iter().map(|h| u64::from(*h)).sum();
+    total == u64::from(HUNDRED) && all_zero(&row[..own])
 }
 
 // The row that `value` lists, with zeros behind its `grades` numbers; absent where it is no such list, does not add
@@ -41,12 +29,6 @@ pub fn row_of(value: &[u8], grades: usize, own: usize) -> Option<[u32; MOST_GRAD
     requires { (grades ≤ most_grades) × (own ≤ most_grades) }
     ensures { result ≡ row_of value.now grades own }
 {
-    let mut row = [0; MOST_GRADES];
-    if !read_list(value, HUNDRED, &mut row[0..grades]) {
-        return None;
-    }
-    if !adds_up(&row, own) {
-        return None;
-    }
-    Some(row)
+    let row = number_list(value, HUNDRED, grades)?;
+    adds_up(&row, own).then_some(row)
 }

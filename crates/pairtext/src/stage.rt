@@ -3,7 +3,7 @@ ghost use Rattle.std.specs.Prelude.{◌≡◌};
 ghost use Rattle.pairtext.specs.Readers.{unit_number, unit_index};
 
 // The line that is due next.
-#[derive(Clone, Copy)]
+#[derive(Clone, Copy, PartialEq, Eq, Debug)]
 pub enum Stage {
     KindDue,
     ThresholdDue,
@@ -20,12 +20,13 @@ pub enum Stage {
     Complete,
 }
 
-#[derive(Clone, Copy)]
+#[derive(Clone, Copy, PartialEq, Eq, Debug)]
 pub enum UnitName {
     One,
     Two,
 }
 
+// A method for each of its two numbers: From could stand for only one of them.
 impl UnitName {
     // Its number in a text.
     pub fn number(self) -> u32

@@ -1,34 +1,36 @@
 // One line of a pair's text, taken by the stage of the reader and the line's key.
 ghost use Rattle.std.specs.Prelude.{◌≡◌, ◌<◌, ◌≤◌};
+ghost use Rattle.lines.specs.Line.{said};
 ghost use Rattle.pair.specs.Limits.{most_grades};
-ghost use Rattle.pairtext.specs.Readers.{opened_unit};
-ghost use Rattle.pairtext.specs.Steps.{take_kind, take_threshold, take_setup, take_inspect, take_unit, take_grades, take_row, take_planned, take_forced, take_dark, take_end, pair_step, answer_of, reader_after};
+ghost use Rattle.pairtext.specs.Readers.{at_stage, opened_unit};
+ghost use Rattle.pairtext.specs.Steps.{on_word, take_threshold, take_setup, take_inspect, take_unit, take_grades, take_row, take_planned, take_forced, take_dark, line_step, answer_of, reader_after};
 ghost use Rattle.pairtext.specs.Sound.{Sound};
 
-use crate::filling::{put_row, set_dark, set_forced, set_grades, set_planned};
 use crate::reader::PairReader;
 use crate::rows::row_of;
 use crate::stage::{Stage, UnitName};
+use lines::reading::Line;
 use pair::limits::{LEAST_GRADES, MOST_CHARGE, MOST_DARK, MOST_GRADES, MOST_THRESHOLD};
 use reading::keys::Key;
-use reading::rules::Rule;
+use reading::rules::{Rule, fault_rule};
 use reading::values::number_between;
-use reading::words::is_word;
 
 // The words after kind= and end=.
 const KIND: &[u8] = b"pair";
 
 const END: &[u8] = b"plant";
 
+// A method for each number: it fills one field and names the stage behind it, and a field is no parameter.
 impl PairReader {
-    fn take_kind(&mut self, value: &[u8]) -> Result<(), Rule>
-        ensures answer { result ≡ answer_of (take_kind self.old value.now) }
-        ensures after { self.new ≡ reader_after self.old (take_kind self.old value.now) }
+    // The word that is due, behind which comes the next stage.
+    fn take_word(&mut self, value: &[u8], word: &[u8], next: Stage) -> Result<(), Rule>
+        ensures answer { result ≡ answer_of (on_word value.now word.now (at_stage next self.old)) }
+        ensures after { self.new ≡ reader_after self.old (on_word value.now word.now (at_stage next self.old)) }
     {
-        if !is_word(value, KIND) {
+        if value != word {
             return Err(Rule::Unexpected);
         }
-        self.stage = Stage::ThresholdDue;
+        self.stage = next;
         Ok(())
     }
 
@@ -36,10 +38,7 @@ impl PairReader {
         ensures answer { result ≡ answer_of (take_threshold self.old value.now) }
         ensures after { self.new ≡ reader_after self.old (take_threshold self.old value.now) }
     {
-        let Some(threshold) = number_between(value, 0, MOST_THRESHOLD) else {
-            return Err(Rule::OutOfRange);
-        };
-        self.threshold = threshold;
+        self.threshold = number_between(value, 0, MOST_THRESHOLD).ok_or(Rule::OutOfRange)?;
         self.stage = Stage::SetupDue;
         Ok(())
     }
@@ -48,10 +47,7 @@ impl PairReader {
         ensures answer { result ≡ answer_of (take_setup self.old value.now) }
         ensures after { self.new ≡ reader_after self.old (take_setup self.old value.now) }
     {
-        let Some(cents) = number_between(value, 0, MOST_CHARGE) else {
-            return Err(Rule::OutOfRange);
-        };
-        self.setup = cents;
+        self.setup = number_between(value, 0, MOST_CHARGE).ok_or(Rule::OutOfRange)?;
         self.stage = Stage::InspectDue;
         Ok(())
     }
@@ -60,10 +56,7 @@ impl PairReader {
         ensures answer { result ≡ answer_of (take_inspect self.old value.now) }
         ensures after { self.new ≡ reader_after self.old (take_inspect self.old value.now) }
     {
-        let Some(cents) = number_between(value, 0, MOST_CHARGE) else {
-            return Err(Rule::OutOfRange);
-        };
-        self.inspect = cents;
+        self.inspect = number_between(value, 0, MOST_CHARGE).ok_or(Rule::OutOfRange)?;
         self.stage = Stage::UnitDue;
         Ok(())
     }
@@ -73,9 +66,7 @@ impl PairReader {
         ensures after { self.new ≡ reader_after self.old (take_unit self.old value.now) }
     {
         let due = self.opened.number();
-        if number_between(value, due, due).is_none() {
-            return Err(Rule::OutOfRange);
-        }
+        number_between(value, due, due).ok_or(Rule::OutOfRange)?;
         self.stage = Stage::GradesDue;
         Ok(())
     }
@@ -84,11 +75,8 @@ impl PairReader {
         ensures answer { result ≡ answer_of (take_grades self.old value.now) }
         ensures after { self.new ≡ reader_after self.old (take_grades self.old value.now) }
     {
-        let Some(grades) = number_between(value, LEAST_GRADES as u32, MOST_GRADES as u32) else {
-            return Err(Rule::OutOfRange);
-        };
-        let at = self.opened.index();
-        set_grades(&mut self.units[at], grades as usize);
+        let grades = number_between(value, LEAST_GRADES as u32, MOST_GRADES as u32);
+        self.units[self.opened.index()].grades = grades.ok_or(Rule::OutOfRange)? as usize;
         self.row = 0;
         self.stage = Stage::RowDue;
         Ok(())
@@ -102,10 +90,7 @@ impl PairReader {
         let at = self.opened.index();
         let grades = self.units[at].grades;
         let own = self.row;
-        let Some(row) = row_of(value, grades, own) else {
-            return Err(Rule::OutOfRange);
-        };
-        put_row(&mut self.units[at], own, row);
+        self.units[at].rows[own] = row_of(value, grades, own).ok_or(Rule::OutOfRange)?;
         let read = own + 1;
         self.row = read;
         self.stage = if read + 1 == grades {
@@ -120,11 +105,9 @@ impl PairReader {
         ensures answer { result ≡ answer_of (take_planned self.old value.now) }
         ensures after { self.new ≡ reader_after self.old (take_planned self.old value.now) }
     {
-        let Some(cents) = number_between(value, 0, MOST_CHARGE) else {
-            return Err(Rule::OutOfRange);
-        };
-        let at = self.opened.index();
-        set_planned(&mut self.units[at], cents);
+        self.units[self.opened.index()].planned = number_between(value, 0, MOST_CHARGE).ok_or(
+            Rule::OutOfRange,
+        )?;
         self.stage = Stage::ForcedDue;
         Ok(())
     }
@@ -133,11 +116,9 @@ impl PairReader {
         ensures answer { result ≡ answer_of (take_forced self.old value.now) }
         ensures after { self.new ≡ reader_after self.old (take_forced self.old value.now) }
     {
-        let Some(cents) = number_between(value, 0, MOST_CHARGE) else {
-            return Err(Rule::OutOfRange);
-        };
-        let at = self.opened.index();
-        set_forced(&mut self.units[at], cents);
+        self.units[self.opened.index()].forced = number_between(value, 0, MOST_CHARGE).ok_or(
+            Rule::OutOfRange,
+        )?;
         self.stage = Stage::DarkDue;
         Ok(())
     }
@@ -146,11 +127,9 @@ impl PairReader {
         ensures answer { result ≡ answer_of (take_dark self.old value.now) }
         ensures after { self.new ≡ reader_after self.old (take_dark self.old value.now) }
     {
-        let Some(seconds) = number_between(value, 0, MOST_DARK) else {
-            return Err(Rule::OutOfRange);
-        };
-        let at = self.opened.index();
-        set_dark(&mut self.units[at], seconds);
+        self.units[self.opened.index()].dark = number_between(value, 0, MOST_DARK).ok_or(
+            Rule::OutOfRange,
+        )?;
         match self.opened {
             UnitName::One => {
                 self.opened = UnitName::Two;
@@ -161,25 +140,18 @@ impl PairReader {
         Ok(())
     }
 
-    fn take_end(&mut self, value: &[u8]) -> Result<(), Rule>
-        ensures answer { result ≡ answer_of (take_end self.old value.now) }
-        ensures after { self.new ≡ reader_after self.old (take_end self.old value.now) }
-    {
-        if !is_word(value, END) {
-            return Err(Rule::Unexpected);
-        }
-        self.stage = Stage::Complete;
-        Ok(())
-    }
-
-    // Takes one line by the stage and the key, and moves on; a refused line leaves the reader as it was.
-    pub(crate) fn step(&mut self, key: Key, value: &[u8]) -> Result<(), Rule>
+    // Takes one line by the stage and its key, and moves on; a refused line leaves the reader as it was.
+    pub(crate) fn step(&mut self, line: Line) -> Result<(), Rule>
         requires { Sound self.old }
-        ensures answer { result ≡ answer_of (pair_step self.old key value.now) }
-        ensures after { self.new ≡ reader_after self.old (pair_step self.old key value.now) }
+        ensures answer { result ≡ answer_of (line_step self.old (said line.entry)) }
+        ensures after { self.new ≡ reader_after self.old (line_step self.old (said line.entry)) }
     {
+        let (key, value) = match line {
+            Line::Pair(name, value) => (Key::from(name), value),
+            Line::Fault(fault) => return Err(fault_rule(fault)),
+        };
         match (self.stage, key) {
-            (Stage::KindDue, Key::Kind) => self.take_kind(value),
+            (Stage::KindDue, Key::Kind) => self.take_word(value, KIND, Stage::ThresholdDue),
             (Stage::ThresholdDue, Key::Threshold) => self.take_threshold(value),
             (Stage::SetupDue, Key::Setup) => self.take_setup(value),
             (Stage::InspectDue, Key::Inspect) => self.take_inspect(value),
@@ -189,7 +161,7 @@ impl PairReader {
             (Stage::PlannedDue, Key::Planned) => self.take_planned(value),
             (Stage::ForcedDue, Key::Forced) => self.take_forced(value),
             (Stage::DarkDue, Key::Dark) => self.take_dark(value),
-            (Stage::EndDue, Key::End) => self.take_end(value),
+            (Stage::EndDue, Key::End) => self.take_word(value, END, Stage::Complete),
             _ => Err(Rule::Unexpected),
         }
     }

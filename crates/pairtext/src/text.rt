@@ -7,21 +7,16 @@ ghost use Rattle.pairtext.specs.Writing.{ReadsPair};
 
 use crate::reader::PairReader;
 use crate::stage::Stage;
-use lines::reading::{Line, Lines};
+use lines::reading::Lines;
 use pair::numbers::PairNumbers;
 use pair::plant::Pair;
-use pair::refusal::PairRefusal;
-use reading::keys::key_of;
-use reading::rules::{ReadRefusal, Rule, fault_rule};
+use reading::rules::{ReadRefusal, Rule};
 
 impl PairReader {
     fn is_complete(&self) -> bool
         ensures { result ≡ complete self.now.stage }
     {
-        match self.stage {
-            Stage::Complete => true,
-            _ => false,
-        }
+        self.stage == Stage::Complete
     }
 
     fn numbers(&self) -> PairNumbers
@@ -41,16 +36,10 @@ impl PairReader {
         requires { Sound self.now × (complete self.now.stage ≡ true) }
         ensures { answered result ≡ judged (numbers_read self.now) line }
     {
-        match Pair::new(self.numbers()) {
-            Ok(pair) => Ok(pair),
-            Err(refusal) => match refusal {
-                PairRefusal::OutOfRange => unreachable(),
-                PairRefusal::NoFullRenewal => Err(ReadRefusal {
-                    rule: Rule::NoFullRenewal,
-                    line,
-                }),
-            },
-        }
+        Pair::new(self.numbers()).map_err(|_| ReadRefusal {
+            rule: Rule::NoFullRenewal,
+            line,
+        })
     }
 }
 
@@ -66,19 +55,11 @@ pub fn read_pair(lines: &mut Lines) -> Result<Pair, ReadRefusal>
     loop {
         let read = lines.next_line();
         let line = read.place;
-        match read.line {
-            Line::Pair(name, value) => {
-                if let Err(rule) = reader.step(key_of(name), value) {
-                    return Err(ReadRefusal { rule, line });
-                }
-                if reader.is_complete() {
-                    return reader.close(line);
-                }
-            }
-            Line::Fault(fault) => {
-                let rule = fault_rule(fault);
-                return Err(ReadRefusal { rule, line });
-            }
+        reader
+            .step(read.line)
+            .map_err(|rule| ReadRefusal { rule, line })?;
+        if reader.is_complete() {
+            return reader.close(line);
         }
     }
 }
