@@ -1,5 +1,5 @@
 -- A pair is read exactly from its text.
-use Rattle.std.proofs.Common.{◌≡◌, ℕ, List, Ok, Err, Result, sym, ◌∙◌, subst, arith}
+use Rattle.std.proofs.Common.{◌≡◌, ℕ, List, Ok, Err, Result, sym, ◌∙◌, subst}
 use Rattle.reading.specs.declared.rules.ReadRefusal.{ReadRefusal}
 use Rattle.pair.specs.Pairs.{LawfulNumbers, Renewable}
 use Rattle.pair.specs.declared.numbers.PairNumbers.{PairNumbers}
