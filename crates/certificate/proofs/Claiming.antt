@@ -1,10 +1,13 @@
 -- From the first least over the states to the first least of all, and the greatest of the policy's.
-use Rattle.std.proofs.Common.{◌≡◌, ℕ, ◌<◌, Bool, true, false, cond, List, length, Some, None, Option, sym, refl, ap, subst, ⊎_elim, arith}
+use Rattle.std.proofs.Common.{◌≡◌, ℕ, ◌<◌, Bool, true, false, cond, List, length, Some, None, Option, sym, refl, ap, ◌∙◌, subst, ⊎_elim, arith}
+use Rattle.std.specs.Option.{option_map}
 use Rattle.std.proofs.lemmas.Bool.{cases_Bool, both_ways}
 use Rattle.interface.specs.Plants.{Model, Lawful}
 use Rattle.interface.specs.Rows.{Row}
 use Rattle.interface.specs.Tariffs.{Scale, LawfulScale, AtMost}
 use Rattle.lookahead.specs.Best.{Pick, first_best, Chosen, FirstBest, cheaper, dearer, where_feasible}
+use Rattle.lookahead.specs.Choices.{pick}
+use Rattle.lookahead.specs.declared.best.Choice.{Choice}
 use Rattle.lookahead.specs.Gains.{gain}
 use Rattle.lookahead.proofs.Bounds.{EachFit}
 use Rattle.lookahead.proofs.Firsts.{first_best_law}
@@ -53,17 +56,17 @@ module _ (m : Model) (lawful : Lawful m) (t : Scale) (scaled : LawfulScale t) (v
   low_fits : (s : ℕ) (u : Row) → state_low m t vs s ≡ Some u → length u ≡ t.places
   low_fits s u h = let chosen = state_chosen s u h in rows_fit m t scaled G fits s chosen.0 u chosen.1.there
 
-  pub lowest_law : (n : ℕ) → FirstBest (cheaper t) (state_low m t vs) n (first_best (cheaper t) (state_low m t vs) n)
+  lowest_law : (n : ℕ) → FirstBest (cheaper t) (state_low m t vs) n (first_best (cheaper t) (state_low m t vs) n)
   lowest_law n = first_best_law (cheaper t) (λ u. length u ≡ t.places) scaled.total scaled.transitive (state_low m t vs) low_fits n
 
-  pub lowest_some : FirstBest (cheaper t) (state_low m t vs) m.states None → ⊥
+  lowest_some : FirstBest (cheaper t) (state_low m t vs) m.states None → ⊥
   lowest_some h =
       let x = lawful.way_out 0 lawful.some_states in
       let there = (state_there 0 x.0 x.1).1 in
       let none = h 0 lawful.some_states in
       let z : ◌≡◌ {A = ℕ} 0 1 = cc in omega arith
 
-  pub lowest_from : (s : ℕ) (u : Row) → Chosen (cheaper t) (state_low m t vs) m.states (record { at = s; row = u }) → Lowest m t vs u
+  lowest_from : (s : ℕ) (u : Row) → Chosen (cheaper t) (state_low m t vs) m.states (record { at = s; row = u }) → Lowest m t vs u
   lowest_from s u chosen =
       let inner = state_chosen s u chosen.there in
       let x = inner.0 in
@@ -89,18 +92,28 @@ module _ (m : Model) (lawful : Lawful m) (t : Scale) (scaled : LawfulScale t) (v
             subst (λ k. t.at_most (G k x') u ≡ false) (sym same.0) (inner.1.first x' (G s x') same.1 (there_of m G s x' f')));
       }
 
+  module _ {A : Type 0} (row : A → Row) (o : Option (Choice A)) (n : ℕ) (all : n ≡ m.states) (is : option_map (pick row) o ≡ first_best (cheaper t) (state_low m t vs) n) where
+    lowest_chosen : FirstBest (cheaper t) (state_low m t vs) m.states (option_map (pick row) o)
+    lowest_chosen = subst (FirstBest (cheaper t) (state_low m t vs) m.states) (sym (is ∙ ap (first_best (cheaper t) (state_low m t vs)) all)) (lowest_law m.states)
+
+    pub lowest_absent : o ≡ None → ⊥
+    lowest_absent e = lowest_some (subst (λ z. FirstBest (cheaper t) (state_low m t vs) m.states (option_map (pick row) z)) e lowest_chosen)
+
+    pub lowest_there : (c : Choice A) → o ≡ Some c → Lowest m t vs (row c.amount)
+    lowest_there c e = lowest_from c.at (row c.amount) (subst (λ z. FirstBest (cheaper t) (state_low m t vs) m.states (option_map (pick row) z)) e lowest_chosen)
+
   module _ (ps : List ℕ) (feasible : (s : ℕ) → s < m.states → m.feasible s (named ps s) ≡ true) where
-    pub highest_law : (n : ℕ) → FirstBest (dearer t) (policy_gain m t vs ps) n (first_best (dearer t) (policy_gain m t vs ps) n)
+    highest_law : (n : ℕ) → FirstBest (dearer t) (policy_gain m t vs ps) n (first_best (dearer t) (policy_gain m t vs ps) n)
     highest_law n = first_best_law (dearer t) (λ u. length u ≡ t.places) (λ u v p q. scaled.total v u q p) (λ u v w p q r a b. scaled.transitive w v u r q p b a)
         (policy_gain m t vs ps) (λ s u h. rows_fit m t scaled G fits s (named ps s) u h) n
 
-    pub highest_some : FirstBest (dearer t) (policy_gain m t vs ps) m.states None → ⊥
+    highest_some : FirstBest (dearer t) (policy_gain m t vs ps) m.states None → ⊥
     highest_some h =
         let some = there_of m G 0 (named ps 0) (feasible 0 lawful.some_states) in
         let none = h 0 lawful.some_states in
         let z : ◌≡◌ {A = ℕ} 0 1 = cc in omega arith
 
-    pub highest_from : (s : ℕ) (u : Row) → Chosen (dearer t) (policy_gain m t vs ps) m.states (record { at = s; row = u }) → Highest m t vs ps u
+    highest_from : (s : ℕ) (u : Row) → Chosen (dearer t) (policy_gain m t vs ps) m.states (record { at = s; row = u }) → Highest m t vs ps u
     highest_from s u chosen = record {
       state = s;
       inside = chosen.below;
@@ -108,3 +121,13 @@ module _ (m : Model) (lawful : Lawful m) (t : Scale) (scaled : LawfulScale t) (v
       greatest = λ s' l. chosen.best s' (G s' (named ps s')) l (there_of m G s' (named ps s') (feasible s' l));
       first = λ s' l. chosen.first s' (G s' (named ps s')) l (there_of m G s' (named ps s') (feasible s' (omega (arith, chosen.below))));
     }
+
+    module _ {A : Type 0} (row : A → Row) (o : Option (Choice A)) (n : ℕ) (all : n ≡ m.states) (is : option_map (pick row) o ≡ first_best (dearer t) (policy_gain m t vs ps) n) where
+      highest_chosen : FirstBest (dearer t) (policy_gain m t vs ps) m.states (option_map (pick row) o)
+      highest_chosen = subst (FirstBest (dearer t) (policy_gain m t vs ps) m.states) (sym (is ∙ ap (first_best (dearer t) (policy_gain m t vs ps)) all)) (highest_law m.states)
+
+      pub highest_absent : o ≡ None → ⊥
+      highest_absent e = highest_some (subst (λ z. FirstBest (dearer t) (policy_gain m t vs ps) m.states (option_map (pick row) z)) e highest_chosen)
+
+      pub highest_there : (c : Choice A) → o ≡ Some c → Highest m t vs ps (row c.amount)
+      highest_there c e = highest_from c.at (row c.amount) (subst (λ z. FirstBest (dearer t) (policy_gain m t vs ps) m.states (option_map (pick row) z)) e highest_chosen)

@@ -1,5 +1,6 @@
 -- The first fault, and tests of every number below a bound.
 use Rattle.std.proofs.Common.{◌≡◌, ℕ, zero, suc, ◌+◌, ◌<◌, Bool, true, false, ◌&&◌, eqb, List, map, length, get_or, is_some, Some, None, Option, sym, refl, ap, ◌∙◌, subst, ⊎_elim, add-one, arith}
+use Rattle.std.specs.List.{list_all, range_with_len}
 use Rattle.std.proofs.lemmas.List.{get_or-map, length-map}
 use Rattle.std.proofs.lemmas.Bool.{cases_eq, and_parts, and_from, and_right}
 use Rattle.interface.specs.Rows.{Row, zeros}
@@ -39,6 +40,18 @@ module _ {A : Type 0} (f : ℕ → Option A) where
   none_from zero h = refl
   none_from (suc n) h = ap (λ z. or_else z (f n)) (none_from n (λ k l. h k (omega arith))) ∙ h n (omega arith)
 
+and_true : (a : Bool) → (a && true) ≡ a
+and_true true = refl
+and_true false = refl
+
+and_assoc : (a b c : Bool) → ((a && b) && c) ≡ (a && (b && c))
+and_assoc true b c = refl
+and_assoc false b c = refl
+
+each_same : (p q : ℕ → Bool) → ((k : ℕ) → p k ≡ q k) → (n : ℕ) → each p n ≡ each q n
+each_same p q h zero = refl
+each_same p q h (suc n) = ap (λ z. z && p n) (each_same p q h n) ∙ ap (λ z. each q n && z) (h n)
+
 module _ (p : ℕ → Bool) where
   pub each_more : (n : ℕ) → each p n ≡ true → p n ≡ true → each p (n + 1) ≡ true
   each_more n h e = rw add-one (and_from (each p n) (p n) h e)
@@ -59,6 +72,20 @@ module _ (p : ℕ → Bool) where
   each_not (suc n) k l h = ⊎_elim
       (λ same. and_right (each p n) (p n) (subst (λ j. p j ≡ false) same h))
       (λ other. ap (λ z. z && p n) (each_not n k (omega arith) h)) (cases_eq k n)
+
+-- the numbers below n, asked one after the other
+each_front : (p : ℕ → Bool) (n : ℕ) → each p (suc n) ≡ (p 0 && each (λ k. p (suc k)) n)
+each_front p zero = sym (and_true (p 0))
+each_front p (suc n) = ap (λ z. z && p (suc n)) (each_front p n) ∙ and_assoc (p 0) (each (λ k. p (suc k)) n) (p (suc n))
+
+all_each : (p : ℕ → Bool) (a n : ℕ) → list_all p (range_with_len a n) ≡ each (λ k. p (a + k)) n
+all_each p a zero = refl
+all_each p a (suc n) =
+    ap (λ z. p a && z) (all_each p (a + 1) n ∙ each_same (λ k. p (a + 1 + k)) (λ k. p (a + suc k)) (λ k. ap p (omega arith)) n)
+    ∙ ap (λ z. p z && each (λ k. p (a + suc k)) n) (omega arith) ∙ sym (each_front (λ k. p (a + k)) n)
+
+pub each_in_range : (p : ℕ → Bool) (n : ℕ) → list_all p (range_with_len 0 n) ≡ each p n
+each_in_range p n = all_each p 0 n ∙ each_same (λ k. p (0 + k)) p (λ k. ap p (omega arith)) n
 
 -- the value of a state is the row of its amount
 pub value_read : {A : Type 0} (row : A → Row) (t : Scale) (xs : List A) (s : ℕ) (x : A) → s < length xs → x ≡ get_or xs s x → value_of t (map row xs) s ≡ row x

@@ -1,9 +1,8 @@
 // The check of a certificate.
-ghost use Rattle.std.specs.Prelude.{◌≡◌, ◌<◌, ◌&&◌, map, length, ◌==◌, nat_le};
+ghost use Rattle.std.specs.Prelude.{◌≡◌, ℕ, List, ◌&&◌, map, length, ◌==◌, nat_le};
+ghost use Rattle.std.specs.Result.{result_err};
 ghost use Rattle.interface.specs.Rows.{reach};
-ghost use Rattle.certificate.specs.Certificates.{most_claim};
-ghost use Rattle.interface.specs.Tariffs.{Answers};
-ghost use Rattle.lookahead.specs.Gains.{Within, gain};
+ghost use Rattle.certificate.specs.Certificates.{most_claim, named};
 ghost use Rattle.certificate.specs.Findings.{Verdict, ExactlySound};
 ghost use Rattle.certificate.specs.Refusals.{refusal, first_fault, value_fault, each, low_test, state_fault};
 
@@ -13,7 +12,9 @@ use crate::refusal::Refusal;
 use interface::claims::Claims;
 use interface::plant::Plant;
 use interface::tariff::Tariff;
+use lookahead::best::Aim;
 use lookahead::table::ValueTable;
+use lookahead::valued::ValuedPlant;
 
 // The farthest that a value of a table may reach.
 pub const MOST_VALUE: u64 = 1_000_000_000_000;
@@ -21,112 +22,72 @@ pub const MOST_VALUE: u64 = 1_000_000_000_000;
 // The farthest that low and high may reach.
 pub const MOST_CLAIM: u64 = 100_000_000_000_000_000;
 
-// The first value beyond reach, by its state.
-pub(crate) fn value_beyond<T: Tariff>(tariff: &T, values: &[T::Amount]) -> Option<Refusal>
-    ensures { result ≡ first_fault (value_fault (T.scale tariff.now) (map T.Tariff.row values.now)) (length values.now) }
+// Refused by the first value beyond reach.
+pub(crate) fn values_near<T: Tariff>(tariff: &T, values: &[T::Amount]) -> Result<(), Refusal>
+    ensures { result_err result ≡ first_fault (value_fault (T.scale tariff.now) (map T.Tariff.row values.now)) (length values.now) }
 {
     for (s, value) in values.iter().enumerate() {
         if tariff.reach(*value) > MOST_VALUE {
-            return Some(Refusal::BeyondReach(s));
+            return Err(Refusal::BeyondReach(s));
         }
     }
-    None
-}
-
-// The gain under a table within reach: there for the feasible portfolios and for no others.
-pub(crate) fn gain_within<P: Plant, T: Tariff>(
-    plant: &P,
-    tariff: &T,
-    values: &[T::Amount],
-    state: usize,
-    portfolio: usize,
-) -> Option<T::Amount>
-    requires { Within (P.model plant.now) (map T.Tariff.row values.now) }
-    ensures { Answers T.Tariff.row result ((P.model plant.now).feasible state portfolio) (gain (P.model plant.now) (T.scale tariff.now) (map T.Tariff.row values.now) state portfolio) }
-{
-    ValueTable::new(values).gain(plant, tariff, state, portfolio)
+    Ok(())
 }
 
 // Whether low is at most the gain of a portfolio, if that is feasible.
 fn low_holds_at<P: Plant, T: Tariff>(
-    plant: &P,
-    tariff: &T,
-    values: &[T::Amount],
+    valued: &ValuedPlant<P, T>,
     low: T::Amount,
     state: usize,
     portfolio: usize,
 ) -> bool
-    requires { Within (P.model plant.now) (map T.Tariff.row values.now) }
-    ensures { result ≡ low_test (P.model plant.now) (T.scale tariff.now) (map T.Tariff.row values.now) (T.Tariff.row low) state portfolio }
+    ensures { result ≡ low_test (P.model valued.now.plant.now) (T.scale valued.now.tariff.now) (map T.Tariff.row valued.now.table.amounts.now) (T.Tariff.row low) state portfolio }
 {
-    match gain_within(plant, tariff, values, state, portfolio) {
-        Some(gain) => tariff.at_most(low, gain),
-        None => true,
-    }
+    valued
+        .gain(state, portfolio)
+        .is_none_or(|gain| valued.tariff.at_most(low, gain))
 }
 
 // Whether no feasible portfolio of a state gains less than low.
-fn low_holds<P: Plant, T: Tariff>(
-    plant: &P,
-    tariff: &T,
-    values: &[T::Amount],
-    low: T::Amount,
-    state: usize,
-) -> bool
-    requires { Within (P.model plant.now) (map T.Tariff.row values.now) }
-    ensures { result ≡ each (low_test (P.model plant.now) (T.scale tariff.now) (map T.Tariff.row values.now) (T.Tariff.row low) state) (P.model plant.now).portfolios }
+fn low_holds<P: Plant, T: Tariff>(valued: &ValuedPlant<P, T>, low: T::Amount, state: usize) -> bool
+    ensures { result ≡ each (low_test (P.model valued.now.plant.now) (T.scale valued.now.tariff.now) (map T.Tariff.row valued.now.table.amounts.now) (T.Tariff.row low) state) (P.model valued.now.plant.now).portfolios }
 {
-    for x in 0..plant.portfolios() {
-        if !low_holds_at(plant, tariff, values, low, state, x) {
-            return false;
-        }
-    }
-    true
+    (0..valued.plant.portfolios()).all(|x| low_holds_at(valued, low, state, x))
 }
 
-// The first test that fails in a state, where the policy names the portfolio.
-fn state_refusal<P: Plant, T: Tariff>(
-    plant: &P,
-    tariff: &T,
-    values: &[T::Amount],
-    policy: &[u16],
+// The tests of a state, for which the policy names the portfolio.
+fn state_holds<P: Plant, T: Tariff>(
+    valued: &ValuedPlant<P, T>,
     claims: Claims<T::Amount>,
     state: usize,
-) -> Option<Refusal>
-    requires within { Within (P.model plant.now) (map T.Tariff.row values.now) }
-    requires inside { state < length policy.now }
-    ensures { result ≡ state_fault (P.model plant.now) (T.scale tariff.now) (map T.Tariff.row values.now) policy.now (T.Tariff.row claims.low) (T.Tariff.row claims.high) state }
+    portfolio: usize,
+) -> Result<(), Refusal>
+    ensures { (policy : List ℕ) → named policy state ≡ portfolio → result_err result ≡ state_fault (P.model valued.now.plant.now) (T.scale valued.now.tariff.now) (map T.Tariff.row valued.now.table.amounts.now) policy (T.Tariff.row claims.low) (T.Tariff.row claims.high) state }
 {
-    let Some(gain) = gain_within(plant, tariff, values, state, usize::from(policy[state])) else {
-        return Some(Refusal::Infeasible(state));
-    };
-    if !low_holds(plant, tariff, values, claims.low, state) {
-        return Some(Refusal::LowBroken(state));
+    let gain = valued
+        .gain(state, portfolio)
+        .ok_or(Refusal::Infeasible(state))?;
+    if !low_holds(valued, claims.low, state) {
+        return Err(Refusal::LowBroken(state));
     }
-    if !tariff.at_most(gain, claims.high) {
-        return Some(Refusal::HighBroken(state));
+    if !valued.tariff.at_most(gain, claims.high) {
+        return Err(Refusal::HighBroken(state));
     }
-    None
+    Ok(())
 }
 
-// The first state in which a test fails.
-fn first_broken<P: Plant, T: Tariff>(
-    plant: &P,
-    tariff: &T,
-    values: &[T::Amount],
+// Refused by the first state in which a test fails.
+fn states_hold<P: Plant, T: Tariff>(
+    valued: &ValuedPlant<P, T>,
     policy: &[u16],
     claims: Claims<T::Amount>,
-) -> Option<Refusal>
-    requires { Within (P.model plant.now) (map T.Tariff.row values.now) }
-    ensures { result ≡ first_fault (state_fault (P.model plant.now) (T.scale tariff.now) (map T.Tariff.row values.now) policy.now (T.Tariff.row claims.low) (T.Tariff.row claims.high)) (length policy.now) }
+) -> Result<(), Refusal>
+    ensures { result_err result ≡ first_fault (state_fault (P.model valued.now.plant.now) (T.scale valued.now.tariff.now) (map T.Tariff.row valued.now.table.amounts.now) policy.now (T.Tariff.row claims.low) (T.Tariff.row claims.high)) (length policy.now) }
 {
-    for state in 0..policy.len() {
-        let broken = state_refusal(plant, tariff, values, policy, claims, state);
-        if broken.is_some() {
-            return broken;
-        }
+    for (state, portfolio) in policy.iter().enumerate() {
+        state_holds(valued, claims, state, usize::from(*portfolio))?;
     }
-    None
+    Ok(())
 }
 
 // Whether both tables have an entry for each state.
@@ -144,27 +105,33 @@ fn claims_near<T: Tariff>(tariff: &T, claims: Claims<T::Amount>) -> bool
     tariff.reach(claims.low) <= MOST_CLAIM && tariff.reach(claims.high) <= MOST_CLAIM
 }
 
-// The first test that fails.
-fn first_refusal<P: Plant, T: Tariff>(
+// All tests.
+fn tests<P: Plant, T: Tariff>(
     plant: &P,
     tariff: &T,
     values: &[T::Amount],
     policy: &[u16],
     claims: Claims<T::Amount>,
-) -> Option<Refusal>
-    ensures { result ≡ refusal (P.model plant.now) (T.scale tariff.now) (map T.Tariff.row values.now) policy.now (T.Tariff.row claims.low) (T.Tariff.row claims.high) }
+) -> Result<(), Refusal>
+    ensures { result_err result ≡ refusal (P.model plant.now) (T.scale tariff.now) (map T.Tariff.row values.now) policy.now (T.Tariff.row claims.low) (T.Tariff.row claims.high) }
 {
     if !level(plant, values, policy) {
-        return Some(Refusal::WrongLength);
+        return Err(Refusal::WrongLength);
     }
     if !claims_near(tariff, claims) {
-        return Some(Refusal::BeyondReach(plant.states()));
+        return Err(Refusal::BeyondReach(plant.states()));
     }
-    let beyond = value_beyond(tariff, values);
-    if beyond.is_some() {
-        return beyond;
-    }
-    first_broken(plant, tariff, values, policy, claims)
+    values_near(tariff, values)?;
+    let table = ValueTable { amounts: values };
+    states_hold(
+        &ValuedPlant {
+            plant,
+            tariff,
+            table,
+        },
+        policy,
+        claims,
+    )
 }
 
 // Accepts exactly the sound certificates: a value table, a policy, and the claims low and high.
@@ -178,15 +145,9 @@ pub fn check<P: Plant, T: Tariff>(
     ensures verdict { Verdict T.Tariff.row (P.model plant.now) (T.scale tariff.now) (map T.Tariff.row values.now) policy.now claims.low claims.high result }
     ensures exact { ExactlySound T.Tariff.row (P.model plant.now) (T.scale tariff.now) (map T.Tariff.row values.now) policy.now claims.low claims.high result }
 {
-    if let Some(refusal) = first_refusal(plant, tariff, values, policy, claims) {
-        return Err(refusal);
-    }
-    let Some(top) = finding::greatest(tariff, values) else {
-        return Err(Refusal::WrongLength);
-    };
-    let Some(bottom) = finding::least(tariff, values) else {
-        return Err(Refusal::WrongLength);
-    };
+    tests(plant, tariff, values, policy, claims)?;
+    let top = finding::extreme(Aim::Greatest, tariff, values).ok_or(Refusal::WrongLength)?;
+    let bottom = finding::extreme(Aim::Least, tariff, values).ok_or(Refusal::WrongLength)?;
     Ok(Finding {
         low: claims.low,
         high: claims.high,

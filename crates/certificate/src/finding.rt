@@ -2,12 +2,11 @@
 ghost use Rattle.std.specs.Prelude.{◌≡◌, map, length};
 ghost use Rattle.std.specs.List.{slice_get};
 ghost use Rattle.std.specs.Option.{option_map};
-ghost use Rattle.lookahead.specs.Best.{first_best, cheaper, dearer};
-ghost use Rattle.lookahead.specs.Choices.{pick};
+ghost use Rattle.lookahead.specs.Best.{first_best};
+ghost use Rattle.lookahead.specs.Choices.{pick, good};
 
 use interface::tariff::Tariff;
-use lookahead::best;
-use lookahead::best::Choice;
+use lookahead::best::{Aim, Choice};
 
 // The claims of the certificate, its first greatest value and its first least.
 #[derive(Clone, Copy, PartialEq, Eq, Debug)]
@@ -18,22 +17,13 @@ pub struct Finding<A> {
     pub bottom: A,
 }
 
-pub(crate) fn greatest<T: Tariff>(tariff: &T, values: &[T::Amount]) -> Option<Choice<T::Amount>>
-    ensures { option_map (pick T.Tariff.row) result ≡ first_best (dearer (T.scale tariff.now)) (slice_get (map T.Tariff.row values.now)) (length values.now) }
+// The first best value of a table.
+pub(crate) fn extreme<T: Tariff>(
+    aim: Aim,
+    tariff: &T,
+    values: &[T::Amount],
+) -> Option<Choice<T::Amount>>
+    ensures { option_map (pick T.Tariff.row) result ≡ first_best (good aim (T.scale tariff.now)) (slice_get (map T.Tariff.row values.now)) (length values.now) }
 {
-    let mut top = None;
-    for (s, value) in values.iter().enumerate() {
-        top = best::keep_greatest(tariff, top, s, Some(*value));
-    }
-    top
-}
-
-pub(crate) fn least<T: Tariff>(tariff: &T, values: &[T::Amount]) -> Option<Choice<T::Amount>>
-    ensures { option_map (pick T.Tariff.row) result ≡ first_best (cheaper (T.scale tariff.now)) (slice_get (map T.Tariff.row values.now)) (length values.now) }
-{
-    let mut bottom = None;
-    for (s, value) in values.iter().enumerate() {
-        bottom = best::keep_least(tariff, bottom, s, Some(*value));
-    }
-    bottom
+    aim.first_best(tariff, values.len(), |s| values.get(s).copied())
 }

@@ -1,103 +1,89 @@
 // The recipe: the best claims that a value table and a policy bear.
-ghost use Rattle.std.specs.Prelude.{◌≡◌, ℕ, ◌<◌, true, map, length, MatchOption};
+ghost use Rattle.std.specs.Prelude.{◌≡◌, ◌<◌, map, length};
 ghost use Rattle.std.specs.Option.{option_map};
-ghost use Rattle.lookahead.specs.Best.{first_best, cheaper, dearer, where_feasible};
+ghost use Rattle.std.specs.Result.{result_err};
+ghost use Rattle.lookahead.specs.Best.{first_best, cheaper, dearer};
 ghost use Rattle.lookahead.specs.Choices.{pick};
-ghost use Rattle.lookahead.specs.Gains.{Within, gain};
-ghost use Rattle.certificate.specs.Certificates.{named};
 ghost use Rattle.certificate.specs.Claims.{Recipe};
 ghost use Rattle.certificate.specs.Recipes.{state_low, policy_gain, policy_fault, recipe_refusal};
 ghost use Rattle.certificate.specs.Refusals.{first_fault};
 
-use crate::check::{gain_within, level, value_beyond};
+use crate::check::{level, values_near};
 use crate::refusal::Refusal;
 use interface::claims::Claims;
 use interface::plant::Plant;
 use interface::tariff::Tariff;
-use lookahead::best;
-use lookahead::best::Choice;
+use lookahead::best::{Aim, Choice};
 use lookahead::table::ValueTable;
+use lookahead::valued::ValuedPlant;
 
-// The first state whose portfolio is not feasible.
-fn policy_refusal<P: Plant>(plant: &P, policy: &[u16]) -> Option<Refusal>
-    ensures { result ≡ first_fault (policy_fault (P.model plant.now) policy.now) (length policy.now) }
+// Refused by the first state whose portfolio is not feasible.
+fn policy_holds<P: Plant>(plant: &P, policy: &[u16]) -> Result<(), Refusal>
+    ensures { result_err result ≡ first_fault (policy_fault (P.model plant.now) policy.now) (length policy.now) }
 {
-    for state in 0..policy.len() {
-        if !plant.feasible(state, policy[state] as usize) {
-            return Some(Refusal::Infeasible(state));
+    for (state, portfolio) in policy.iter().enumerate() {
+        if !plant.feasible(state, usize::from(*portfolio)) {
+            return Err(Refusal::Infeasible(state));
         }
     }
-    None
+    Ok(())
 }
 
 // The least gain of a state, absent where no portfolio is feasible.
-fn state_low<P: Plant, T: Tariff>(
-    plant: &P,
-    tariff: &T,
-    values: &[T::Amount],
-    state: usize,
-) -> Option<T::Amount>
-    requires { Within (P.model plant.now) (map T.Tariff.row values.now) }
-    ensures { option_map T.Tariff.row result ≡ state_low (P.model plant.now) (T.scale tariff.now) (map T.Tariff.row values.now) state }
+fn state_low<P: Plant, T: Tariff>(valued: &ValuedPlant<P, T>, state: usize) -> Option<T::Amount>
+    ensures { option_map T.Tariff.row result ≡ state_low (P.model valued.now.plant.now) (T.scale valued.now.tariff.now) (map T.Tariff.row valued.now.table.amounts.now) state }
 {
-    match ValueTable::new(values).least_gain(plant, tariff, state) {
-        Some(choice) => Some(choice.amount),
-        None => None,
-    }
+    valued.least_gain(state).map(|choice| choice.amount)
 }
 
 // The least gain of all, the first by state and then by portfolio.
-fn lowest<P: Plant, T: Tariff>(
-    plant: &P,
-    tariff: &T,
-    values: &[T::Amount],
-) -> Option<Choice<T::Amount>>
-    requires { Within (P.model plant.now) (map T.Tariff.row values.now) }
-    ensures { option_map (pick T.Tariff.row) result ≡ first_best (cheaper (T.scale tariff.now)) (state_low (P.model plant.now) (T.scale tariff.now) (map T.Tariff.row values.now)) (length values.now) }
+fn lowest<P: Plant, T: Tariff>(valued: &ValuedPlant<P, T>) -> Option<Choice<T::Amount>>
+    ensures { option_map (pick T.Tariff.row) result ≡ first_best (cheaper (T.scale valued.now.tariff.now)) (state_low (P.model valued.now.plant.now) (T.scale valued.now.tariff.now) (map T.Tariff.row valued.now.table.amounts.now)) (length valued.now.table.amounts.now) }
 {
-    let mut low = None;
-    for state in 0..values.len() {
-        let next = state_low(plant, tariff, values, state);
-        low = best::keep_least(tariff, low, state, next);
-    }
-    low
+    let states = valued.table.amounts.len();
+    Aim::Least.first_best(valued.tariff, states, |state| state_low(valued, state))
+}
+
+// The gain of a state's portfolio, absent where that is not feasible.
+fn policy_gain<P: Plant, T: Tariff>(
+    valued: &ValuedPlant<P, T>,
+    policy: &[u16],
+    state: usize,
+) -> Option<T::Amount>
+    ensures { state < length policy.now → option_map T.Tariff.row result ≡ policy_gain (P.model valued.now.plant.now) (T.scale valued.now.tariff.now) (map T.Tariff.row valued.now.table.amounts.now) policy.now state }
+{
+    let portfolio = policy.get(state).copied()?;
+    valued.gain(state, usize::from(portfolio))
 }
 
 // The greatest gain of the policy's portfolios, the first by state.
 fn highest<P: Plant, T: Tariff>(
-    plant: &P,
-    tariff: &T,
-    values: &[T::Amount],
+    valued: &ValuedPlant<P, T>,
     policy: &[u16],
 ) -> Option<Choice<T::Amount>>
-    requires { Within (P.model plant.now) (map T.Tariff.row values.now) }
-    ensures { option_map (pick T.Tariff.row) result ≡ first_best (dearer (T.scale tariff.now)) (policy_gain (P.model plant.now) (T.scale tariff.now) (map T.Tariff.row values.now) policy.now) (length policy.now) }
+    ensures { option_map (pick T.Tariff.row) result ≡ first_best (dearer (T.scale valued.now.tariff.now)) (policy_gain (P.model valued.now.plant.now) (T.scale valued.now.tariff.now) (map T.Tariff.row valued.now.table.amounts.now) policy.now) (length policy.now) }
 {
-    let mut high = None;
-    for state in 0..policy.len() {
-        let next = gain_within(plant, tariff, values, state, policy[state] as usize);
-        high = best::keep_greatest(tariff, high, state, next);
-    }
-    high
+    Aim::Greatest.first_best(
+        valued.tariff,
+        policy.len(),
+        |state| policy_gain(valued, policy, state),
+    )
 }
 
-// The first test that fails.
-fn first_refusal<P: Plant, T: Tariff>(
+// All tests.
+fn tests<P: Plant, T: Tariff>(
     plant: &P,
     tariff: &T,
     values: &[T::Amount],
     policy: &[u16],
-) -> Option<Refusal>
-    ensures { result ≡ recipe_refusal (P.model plant.now) (T.scale tariff.now) (map T.Tariff.row values.now) policy.now }
+) -> Result<(), Refusal>
+    ensures { result_err result ≡ recipe_refusal (P.model plant.now) (T.scale tariff.now) (map T.Tariff.row values.now) policy.now }
 {
     if !level(plant, values, policy) {
-        return Some(Refusal::WrongLength);
+        return Err(Refusal::WrongLength);
     }
-    let beyond = value_beyond(tariff, values);
-    if beyond.is_some() {
-        return beyond;
-    }
-    policy_refusal(plant, policy)
+    values_near(tariff, values)?;
+    policy_holds(plant, policy)
 }
 
 // The least gain of all feasible portfolios and the greatest of the policy's.
@@ -109,15 +95,15 @@ pub fn recipe<P: Plant, T: Tariff>(
 ) -> Result<Claims<T::Amount>, Refusal>
     ensures { Recipe T.Tariff.row (P.model plant.now) (T.scale tariff.now) (map T.Tariff.row values.now) policy.now result }
 {
-    if let Some(refusal) = first_refusal(plant, tariff, values, policy) {
-        return Err(refusal);
-    }
-    let Some(low) = lowest(plant, tariff, values) else {
-        return Err(Refusal::WrongLength);
+    tests(plant, tariff, values, policy)?;
+    let table = ValueTable { amounts: values };
+    let valued = ValuedPlant {
+        plant,
+        tariff,
+        table,
     };
-    let Some(high) = highest(plant, tariff, values, policy) else {
-        return Err(Refusal::WrongLength);
-    };
+    let low = lowest(&valued).ok_or(Refusal::WrongLength)?;
+    let high = highest(&valued, policy).ok_or(Refusal::WrongLength)?;
     Ok(Claims {
         low: low.amount,
         high: high.amount,

@@ -1,5 +1,7 @@
 -- The look-ahead and the gain of a portfolio under a value table, as rows of any reach.
 use Rattle.std.specs.Prelude.{◌≡◌, ℕ, ◌≤◌, List, [], ◌∷◌, length, slice_index_or}
+use Rattle.std.specs.Coded.{Coded-set, coded_ℕ, ×_prop, Unit-prop, le_prop}
+use Rattle.std.proofs.Math.Path.{ap, ◌∙◌}
 use Rattle.interface.specs.declared.plant.Outcome.{Outcome}
 use Rattle.interface.specs.Limits.{whole}
 use Rattle.interface.specs.Plants.{Model}
@@ -35,3 +37,11 @@ Near (v ∷ vs) = (reach v ≤ most_value) × Near vs
 pub record Within (m : Model) (vs : List Row) : Type 0 where
   pub long : length vs ≡ m.states
   pub near : Near vs
+
+-- Each holds in one way only, so that a struct may keep it.
+pub near_prop : (vs : List Row) → IsProp (Near vs)
+near_prop [] = Unit-prop
+near_prop (v ∷ vs) = ×_prop le_prop (near_prop vs)
+
+pub within_prop : (m : Model) (vs : List Row) → IsProp (Within m vs)
+within_prop m vs = λ a b. ap (λ long. record { long = long; near = a.near }) (Coded-set coded_ℕ (length vs) m.states a.long b.long) ∙ ap (λ near. record { long = b.long; near = near }) (near_prop vs a.near b.near)

@@ -1,9 +1,7 @@
-// The look-ahead and the gain of a portfolio, step by step and as they come to under a table within reach.
+// The look-ahead and the gain of a portfolio, step by step.
 ghost use Rattle.std.specs.Prelude.{◌≡◌, map};
 ghost use Rattle.std.specs.Option.{option_map};
 ghost use Rattle.interface.specs.Plants.{outcomes_of};
-ghost use Rattle.interface.specs.Tariffs.{Answers};
-ghost use Rattle.lookahead.specs.Gains.{Within, look_ahead, gain};
 ghost use Rattle.lookahead.specs.Steps.{add_outcome, add_outcomes, look_ahead_steps, gain_steps};
 
 use interface::limits::WHOLE;
@@ -19,10 +17,8 @@ fn add_outcome<T: Tariff>(
 ) -> Option<T::Amount>
     ensures { option_map T.Tariff.row result ≡ add_outcome (map T.Tariff.row values.now) (T.Tariff.row sum) o }
 {
-    if o.next >= values.len() {
-        return None;
-    }
-    let part = tariff.multiple(o.weight, values[o.next])?;
+    let value = values.get(o.next).copied()?;
+    let part = tariff.multiple(o.weight, value)?;
     tariff.sum(sum, part)
 }
 
@@ -45,8 +41,8 @@ fn add_outcomes<P: Plant, T: Tariff>(
     Some(sum)
 }
 
-// The look-ahead, step by step.
-fn ahead_by_steps<P: Plant, T: Tariff>(
+// The look-ahead.
+pub(crate) fn look_ahead<P: Plant, T: Tariff>(
     plant: &P,
     tariff: &T,
     values: &[T::Amount],
@@ -61,8 +57,8 @@ fn ahead_by_steps<P: Plant, T: Tariff>(
     add_outcomes(plant, tariff, values, start, state, portfolio)
 }
 
-// The gain, step by step.
-fn gain_by_steps<P: Plant, T: Tariff>(
+// The gain: what the look-ahead exceeds the state's own value by.
+pub(crate) fn gain<P: Plant, T: Tariff>(
     plant: &P,
     tariff: &T,
     values: &[T::Amount],
@@ -71,39 +67,8 @@ fn gain_by_steps<P: Plant, T: Tariff>(
 ) -> Option<T::Amount>
     ensures { option_map T.Tariff.row result ≡ gain_steps (P.model plant.now) (T.scale tariff.now) (map T.Tariff.row values.now) state portfolio }
 {
-    let ahead = ahead_by_steps(plant, tariff, values, state, portfolio)?;
-    if state >= values.len() {
-        return None;
-    }
-    let own = tariff.multiple(WHOLE, values[state])?;
+    let ahead = look_ahead(plant, tariff, values, state, portfolio)?;
+    let value = values.get(state).copied()?;
+    let own = tariff.multiple(WHOLE, value)?;
     tariff.difference(ahead, own)
-}
-
-// The look-ahead of a portfolio in a state. Under a table within reach it is there for the feasible portfolios and for no
-// others.
-pub(crate) fn look_ahead<P: Plant, T: Tariff>(
-    plant: &P,
-    tariff: &T,
-    values: &[T::Amount],
-    state: usize,
-    portfolio: usize,
-) -> Option<T::Amount>
-    ensures steps { option_map T.Tariff.row result ≡ look_ahead_steps (P.model plant.now) (T.scale tariff.now) (map T.Tariff.row values.now) state portfolio }
-    ensures within { Within (P.model plant.now) (map T.Tariff.row values.now) → Answers T.Tariff.row result ((P.model plant.now).feasible state portfolio) (look_ahead (P.model plant.now) (T.scale tariff.now) (map T.Tariff.row values.now) state portfolio) }
-{
-    ahead_by_steps(plant, tariff, values, state, portfolio)
-}
-
-// The gain of a portfolio in a state, absent as the look-ahead is.
-pub(crate) fn gain<P: Plant, T: Tariff>(
-    plant: &P,
-    tariff: &T,
-    values: &[T::Amount],
-    state: usize,
-    portfolio: usize,
-) -> Option<T::Amount>
-    ensures steps { option_map T.Tariff.row result ≡ gain_steps (P.model plant.now) (T.scale tariff.now) (map T.Tariff.row values.now) state portfolio }
-    ensures within { Within (P.model plant.now) (map T.Tariff.row values.now) → Answers T.Tariff.row result ((P.model plant.now).feasible state portfolio) (gain (P.model plant.now) (T.scale tariff.now) (map T.Tariff.row values.now) state portfolio) }
-{
-    gain_by_steps(plant, tariff, values, state, portfolio)
 }

@@ -5,3 +5,4 @@
 mod ahead;
 pub mod best;
 pub mod table;
+pub mod valued;

@@ -7,8 +7,8 @@ ghost use Rattle.lookahead.specs.Choices.{pick};
 ghost use Rattle.lookahead.specs.Gains.{Within, look_ahead, gain};
 ghost use Rattle.lookahead.specs.Steps.{look_ahead_steps, gain_steps};
 
-use crate::best::Choice;
-use crate::{ahead, best};
+use crate::ahead;
+use crate::best::{Aim, Choice};
 use interface::plant::Plant;
 use interface::tariff::Tariff;
 
@@ -29,11 +29,7 @@ impl<'a, A: Copy> ValueTable<'a, A> {
     pub fn value(&self, state: usize) -> Option<A>
         ensures { result ≡ slice_get self.now.amounts.now state }
     {
-        if state < self.amounts.len() {
-            Some(self.amounts[state])
-        } else {
-            None
-        }
+        self.amounts.get(state).copied()
     }
 
     // The look-ahead of a portfolio in a state. Under a table within reach it is there for the
@@ -76,12 +72,9 @@ impl<'a, A: Copy> ValueTable<'a, A> {
         ensures within { Within (P.model plant.now) (map T.Tariff.row self.now.amounts.now) → option_map (pick T.Tariff.row) result ≡ first_best (cheaper (T.scale tariff.now)) (where_feasible (P.model plant.now) (look_ahead (P.model plant.now) (T.scale tariff.now) (map T.Tariff.row self.now.amounts.now)) state) (P.model plant.now).portfolios }
         ensures least { Within (P.model plant.now) (map T.Tariff.row self.now.amounts.now) → FirstBest (cheaper (T.scale tariff.now)) (where_feasible (P.model plant.now) (look_ahead (P.model plant.now) (T.scale tariff.now) (map T.Tariff.row self.now.amounts.now)) state) (P.model plant.now).portfolios (option_map (pick T.Tariff.row) result) }
     {
-        let mut least = None;
-        for x in 0..plant.portfolios() {
-            let ahead = self.look_ahead(plant, tariff, state, x);
-            least = best::keep_least(tariff, least, x, ahead);
-        }
-        least
+        Aim::Least.first_best(tariff, plant.portfolios(), |x| {
+            self.look_ahead(plant, tariff, state, x)
+        })
     }
 
     // The least gain of a state, with its portfolio: the lowest-numbered among equals.
@@ -95,11 +88,8 @@ impl<'a, A: Copy> ValueTable<'a, A> {
         ensures within { Within (P.model plant.now) (map T.Tariff.row self.now.amounts.now) → option_map (pick T.Tariff.row) result ≡ first_best (cheaper (T.scale tariff.now)) (where_feasible (P.model plant.now) (gain (P.model plant.now) (T.scale tariff.now) (map T.Tariff.row self.now.amounts.now)) state) (P.model plant.now).portfolios }
         ensures least { Within (P.model plant.now) (map T.Tariff.row self.now.amounts.now) → FirstBest (cheaper (T.scale tariff.now)) (where_feasible (P.model plant.now) (gain (P.model plant.now) (T.scale tariff.now) (map T.Tariff.row self.now.amounts.now)) state) (P.model plant.now).portfolios (option_map (pick T.Tariff.row) result) }
     {
-        let mut least = None;
-        for x in 0..plant.portfolios() {
-            let gain = self.gain(plant, tariff, state, x);
-            least = best::keep_least(tariff, least, x, gain);
-        }
-        least
+        Aim::Least.first_best(tariff, plant.portfolios(), |x| {
+            self.gain(plant, tariff, state, x)
+        })
     }
 }

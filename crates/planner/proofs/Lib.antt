@@ -1,3 +1,4 @@
+pub mod Claimed
 pub mod Fills
 pub mod Shares
 pub mod Sweeping

@@ -1,17 +1,20 @@
-// One sweep, the choice of a policy, and the clearing of tables.
-ghost use Rattle.std.specs.Prelude.{◌≡◌, ℕ, ◌+◌, ◌<◌, ◌≤◌, map, length, replicate, MatchOption};
+// One sweep, the choice of a policy, and the clearing of a table of amounts.
+ghost use Rattle.std.specs.Prelude.{◌≡◌, ℕ, ◌+◌, ◌<◌, ◌≤◌, map, length, MatchResult};
 ghost use Rattle.interface.specs.Limits.{most_reach};
 ghost use Rattle.interface.specs.Rows.{minus, share, reach};
 ghost use Rattle.lookahead.specs.Gains.{Within, Near};
+ghost use Rattle.planner.specs.declared.refusal.Refusal.TheVariants.{BeyondReach};
 ghost use Rattle.planner.specs.Sweeps.{blank, LeastAhead, Shared, Sweep, Swept, Stuck, Chooses};
 
+use crate::refusal::Refusal;
 use certificate::check::MOST_VALUE;
 use interface::plant::Plant;
 use interface::tariff::Tariff;
 use lookahead::best::Choice;
 use lookahead::table::ValueTable;
+use lookahead::valued::ValuedPlant;
 
-// Zero rows everywhere.
+// Zero rows everywhere. `fill` asks for an amount whose clone cannot fail, which an amount that is just Copy does not promise.
 pub(crate) fn clear<T: Tariff>(tariff: &T, table: &mut [T::Amount])
     ensures { map T.Tariff.row table.new ≡ blank (T.scale tariff.now) (length table.old) }
 {
@@ -20,29 +23,15 @@ pub(crate) fn clear<T: Tariff>(tariff: &T, table: &mut [T::Amount])
     }
 }
 
-pub(crate) fn clear_policy(policy: &mut [u16])
-    ensures { policy.new ≡ replicate (length policy.old) 0 }
-{
-    for cell in policy.iter_mut() {
-        *cell = 0;
-    }
-}
-
 // The least look-ahead of a state, with its portfolio.
 pub(crate) fn least_ahead<P: Plant, T: Tariff>(
-    plant: &P,
-    tariff: &T,
-    values: &[T::Amount],
+    valued: &ValuedPlant<P, T>,
     state: usize,
 ) -> Choice<T::Amount>
-    requires within { Within (P.model plant.now) (map T.Tariff.row values.now) }
-    requires inside { state < (P.model plant.now).states }
-    ensures { LeastAhead (P.model plant.now) (T.scale tariff.now) (map T.Tariff.row values.now) state result.at (T.Tariff.row result.amount) }
+    requires { state < (P.model valued.now.plant.now).states }
+    ensures { LeastAhead (P.model valued.now.plant.now) (T.scale valued.now.tariff.now) (map T.Tariff.row valued.now.table.amounts.now) state result.at (T.Tariff.row result.amount) }
 {
-    let Some(choice) = ValueTable::new(values).least_look_ahead(plant, tariff, state) else {
-        unreachable()
-    };
-    choice
+    valued.least_look_ahead(state).unwrap()
 }
 
 // The difference of two amounts whose reaches are small.
@@ -50,85 +39,62 @@ fn apart<T: Tariff>(tariff: &T, a: T::Amount, b: T::Amount) -> T::Amount
     requires { reach (T.Tariff.row a) + reach (T.Tariff.row b) ≤ most_reach }
     ensures { T.Tariff.row result ≡ minus (T.Tariff.row a) (T.Tariff.row b) }
 {
-    let Some(difference) = tariff.difference(a, b) else {
-        unreachable()
-    };
-    difference
+    tariff.difference(a, b).unwrap()
 }
 
 // The share of a state's least look-ahead.
-fn least_share<P: Plant, T: Tariff>(
-    plant: &P,
-    tariff: &T,
-    values: &[T::Amount],
-    state: usize,
-) -> T::Amount
-    requires within { Within (P.model plant.now) (map T.Tariff.row values.now) }
-    requires inside { state < (P.model plant.now).states }
-    ensures { Shared (P.model plant.now) (T.scale tariff.now) (map T.Tariff.row values.now) state (T.Tariff.row result) }
+fn least_share<P: Plant, T: Tariff>(valued: &ValuedPlant<P, T>, state: usize) -> T::Amount
+    requires { state < (P.model valued.now.plant.now).states }
+    ensures { Shared (P.model valued.now.plant.now) (T.scale valued.now.tariff.now) (map T.Tariff.row valued.now.table.amounts.now) state (T.Tariff.row result) }
 {
-    tariff.share(least_ahead(plant, tariff, values, state).amount)
+    valued.tariff.share(least_ahead(valued, state).amount)
 }
 
-// The values that a sweep gives, into the working table: the first state whose value would be beyond reach, or none.
+// The values that a sweep gives, into the working table, up to the first state whose value would be beyond reach.
 fn sweep_into<P: Plant, T: Tariff>(
     plant: &P,
     tariff: &T,
     values: &[T::Amount],
     working: &mut [T::Amount],
-) -> Option<usize>
+) -> Result<(), Refusal>
     requires within { Within (P.model plant.now) (map T.Tariff.row values.now) }
     requires long { length working.old ≡ (P.model plant.now).states }
-    ensures { MatchOption result (Sweep (P.model plant.now) (T.scale tariff.now) (map T.Tariff.row values.now) (map T.Tariff.row working.new) × Near (map T.Tariff.row working.new)) (Stuck (P.model plant.now) (T.scale tariff.now) (map T.Tariff.row values.now)) }
+    ensures { MatchResult result (λ _. Sweep (P.model plant.now) (T.scale tariff.now) (map T.Tariff.row values.now) (map T.Tariff.row working.new) × Near (map T.Tariff.row working.new)) (λ e. (s : ℕ) × (e ≡ BeyondReach s) × Stuck (P.model plant.now) (T.scale tariff.now) (map T.Tariff.row values.now) s) }
 {
-    let base = least_share(plant, tariff, values, 0);
-    for state in 0..working.len() {
-        let value = apart(tariff, least_share(plant, tariff, values, state), base);
+    let table = ValueTable { amounts: values };
+    let valued = ValuedPlant {
+        plant,
+        tariff,
+        table,
+    };
+    let base = least_share(&valued, 0);
+    for (state, cell) in working.iter_mut().enumerate() {
+        let value = apart(tariff, least_share(&valued, state), base);
         if tariff.reach(value) > MOST_VALUE {
-            return Some(state);
+            return Err(Refusal::BeyondReach(state));
         }
-        working[state] = value;
+        *cell = value;
     }
-    None
+    Ok(())
 }
 
-// One sweep of the value table; where a value would be beyond reach, the first such state, and the values stay.
-pub(crate) fn sweep<P: Plant, T: Tariff>(
-    plant: &P,
-    tariff: &T,
-    values: &mut [T::Amount],
-    working: &mut [T::Amount],
-) -> Option<usize>
-    requires within { Within (P.model plant.now) (map T.Tariff.row values.old) }
-    requires long { length working.old ≡ (P.model plant.now).states }
-    ensures { MatchOption result (Sweep (P.model plant.now) (T.scale tariff.now) (map T.Tariff.row values.old) (map T.Tariff.row values.new) × Near (map T.Tariff.row values.new)) (λ s. Stuck (P.model plant.now) (T.scale tariff.now) (map T.Tariff.row values.old) s × (values.new ≡ values.old)) }
-{
-    let stuck = sweep_into(plant, tariff, values, working);
-    if stuck.is_none() {
-        values.copy_from_slice(working);
-    }
-    stuck
-}
-
-// All sweeps of a table of zero rows, up to the first that would leave a value beyond reach: the state of that value.
+// All sweeps of a table of zero rows, up to the first that would leave a value beyond reach.
 pub(crate) fn sweep_all<P: Plant, T: Tariff>(
     plant: &P,
     tariff: &T,
     sweeps: u32,
     values: &mut [T::Amount],
     working: &mut [T::Amount],
-) -> Option<usize>
+) -> Result<(), Refusal>
     requires zero { map T.Tariff.row values.old ≡ blank (T.scale tariff.now) (P.model plant.now).states }
     requires long { length working.old ≡ (P.model plant.now).states }
-    ensures { MatchOption result (Swept (P.model plant.now) (T.scale tariff.now) sweeps (map T.Tariff.row values.new)) (λ s. (k : ℕ) × (k < sweeps) × Swept (P.model plant.now) (T.scale tariff.now) k (map T.Tariff.row values.new) × Stuck (P.model plant.now) (T.scale tariff.now) (map T.Tariff.row values.new) s) }
+    ensures { MatchResult result (λ _. Swept (P.model plant.now) (T.scale tariff.now) sweeps (map T.Tariff.row values.new)) (λ e. (s : ℕ) × (e ≡ BeyondReach s) × (k : ℕ) × (k < sweeps) × Swept (P.model plant.now) (T.scale tariff.now) k (map T.Tariff.row values.new) × Stuck (P.model plant.now) (T.scale tariff.now) (map T.Tariff.row values.new) s) }
 {
     for _done in 0..sweeps {
-        let stuck = sweep(plant, tariff, values, working);
-        if stuck.is_some() {
-            return stuck;
-        }
+        sweep_into(plant, tariff, values, working)?;
+        values.copy_from_slice(working);
     }
-    None
+    Ok(())
 }
 
 // Writes the policy: in each state a portfolio of least look-ahead, of several the one with the lowest number.
@@ -142,8 +108,13 @@ pub(crate) fn choose<P: Plant, T: Tariff>(
     requires long { length policy.old ≡ (P.model plant.now).states }
     ensures { Chooses (P.model plant.now) (T.scale tariff.now) (map T.Tariff.row values.now) policy.new }
 {
-    for state in 0..policy.len() {
-        let least = least_ahead(plant, tariff, values, state);
-        policy[state] = least.at as u16;
+    let table = ValueTable { amounts: values };
+    let valued = ValuedPlant {
+        plant,
+        tariff,
+        table,
+    };
+    for (state, named) in policy.iter_mut().enumerate() {
+        *named = least_ahead(&valued, state).at as u16;
     }
 }

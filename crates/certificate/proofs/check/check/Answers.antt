@@ -1,70 +1,66 @@
-use Rattle.std.proofs.Common.{◌≡◌, ℕ, ◌≤◌, map, length, sym, refl, ◌∙◌, subst, arith}
-use Rattle.std.specs.List.{slice_get}
-use Rattle.std.specs.Option.{option_map}
+use Rattle.std.proofs.Common.{◌≡◌, ℕ, ◌≤◌, Err, map, length, sym, refl, ap, ◌∙◌, subst, arith, rules}
+use Rattle.std.specs.Result.{result_ok, result_err}
 use Rattle.std.proofs.lemmas.List.{length-map}
-use Rattle.lookahead.specs.Best.{FirstBest, Chosen, cheaper, dearer}
-use Rattle.lookahead.specs.Choices.{pick}
-use Rattle.certificate.proofs.Extremes.{found, greatest_choice, least_choice}
+use Rattle.lookahead.specs.declared.best.Aim.TheVariants.{Least, Greatest}
+use Rattle.certificate.specs.Findings.{ExactlySound}
+use Rattle.certificate.proofs.Extremes.{extreme_absent, extreme_there}
 use Rattle.certificate.proofs.Soundness.{sound_from, sound_to}
 use Rattle.certificate.proofs.check.check.Goals as goal
 
-pub returns-in-Some : goal.returns-in-Some
-returns-in-Some g c =
-    let row = g.T.Tariff.row in
-    let is = sym c.first_refusal.ensures ∙ c.in-Some.is in
-    record {
-      verdict = is;
-      exact = λ sound.
-          let none = sound_to (g.P.Plant.model c.args.plant.now) (g.met.P.Plant.lawful c.args.plant.now) (g.T.Tariff.scale c.args.tariff.now) (map row c.args.values.now) c.args.policy.now (row c.args.claims.low) (row c.args.claims.high) sound in
-          let z : ◌≡◌ {A = ℕ} 0 1 = cc in omega arith;
-    }
-
-pub returns-in_default-greatest : goal.returns-in_default-greatest
-returns-in_default-greatest g c =
+pub returns-in_err-tests-clause-exact : goal.returns-in_err-tests-clause-exact
+returns-in_err-tests-clause-exact g c =
     let row = g.T.Tariff.row in
     let m = g.P.Plant.model c.args.plant.now in
     let t = g.T.Tariff.scale c.args.tariff.now in
-    let lawful = g.met.P.Plant.lawful c.args.plant.now in
-    let xs = c.args.values.now in
-    let sound = sound_from m lawful t (map row xs) c.args.policy.now (row c.args.claims.low) (row c.args.claims.high) (sym c.first_refusal.ensures ∙ c.in_default.is) in
-    let some : 1 ≤ length xs = omega (arith, lawful.some_states, sound.values.long, length-map xs row) in
-    let law = greatest_choice row t (g.met.T.Tariff.lawful c.args.tariff.now) (g.met.T.Tariff.fits c.args.tariff.now) xs c.greatest.result c.greatest.ensures in
-    absurd (found row (dearer t) xs some (subst (λ o. FirstBest (dearer t) (slice_get (map row xs)) (length xs) (option_map (pick row) o)) c.in_default-greatest.is law))
+    let vs = map row c.args.values.now in
+    let out : c.from_residual.result ≡ Err c.in_err-tests.field-0.0 = search rules in
+    subst (ExactlySound row m t vs c.args.policy.now c.args.claims.low c.args.claims.high) (sym out)
+    (λ sound.
+    let none = sound_to m (g.met.P.Plant.lawful c.args.plant.now) t vs c.args.policy.now (row c.args.claims.low) (row c.args.claims.high) sound in
+    let some = sym c.tests.ensures ∙ ap result_err c.in_err-tests.was in
+    let z : ◌≡◌ {A = ℕ} 0 1 = cc in omega arith)
 
-pub returns-in_default-least : goal.returns-in_default-least
-returns-in_default-least g c =
+pub returns-in_err-top : goal.returns-in_err-top
+returns-in_err-top g c =
     let row = g.T.Tariff.row in
-    let m = g.P.Plant.model c.args.plant.now in
     let t = g.T.Tariff.scale c.args.tariff.now in
     let lawful = g.met.P.Plant.lawful c.args.plant.now in
     let xs = c.args.values.now in
-    let sound = sound_from m lawful t (map row xs) c.args.policy.now (row c.args.claims.low) (row c.args.claims.high) (sym c.first_refusal.ensures ∙ c.in_default.is) in
+    let sound = sound_from (g.P.Plant.model c.args.plant.now) lawful t (map row xs) c.args.policy.now (row c.args.claims.low) (row c.args.claims.high) (sym c.tests.ensures ∙ ap result_err c.in_ok-tests.was) in
     let some : 1 ≤ length xs = omega (arith, lawful.some_states, sound.values.long, length-map xs row) in
-    let law = least_choice row t (g.met.T.Tariff.lawful c.args.tariff.now) (g.met.T.Tariff.fits c.args.tariff.now) xs c.least.result c.least.ensures in
-    absurd (found row (cheaper t) xs some (subst (λ o. FirstBest (cheaper t) (slice_get (map row xs)) (length xs) (option_map (pick row) o)) c.in_default-least.is law))
+    absurd (extreme_absent row t (g.met.T.Tariff.lawful c.args.tariff.now) (g.met.T.Tariff.fits c.args.tariff.now) xs Greatest c.extreme.result c.extreme.ensures some (c.ok_or.ensures.ok_part ∙ ap result_ok c.in_err-top.was))
+
+pub returns-in_err-bottom : goal.returns-in_err-bottom
+returns-in_err-bottom g c =
+    let row = g.T.Tariff.row in
+    let t = g.T.Tariff.scale c.args.tariff.now in
+    let lawful = g.met.P.Plant.lawful c.args.plant.now in
+    let xs = c.args.values.now in
+    let sound = sound_from (g.P.Plant.model c.args.plant.now) lawful t (map row xs) c.args.policy.now (row c.args.claims.low) (row c.args.claims.high) (sym c.tests.ensures ∙ ap result_err c.in_ok-tests.was) in
+    let some : 1 ≤ length xs = omega (arith, lawful.some_states, sound.values.long, length-map xs row) in
+    absurd (extreme_absent row t (g.met.T.Tariff.lawful c.args.tariff.now) (g.met.T.Tariff.fits c.args.tariff.now) xs Least c.extreme-2.result c.extreme-2.ensures some (c.ok_or-2.ensures.ok_part ∙ ap result_ok c.in_err-bottom.was))
 
 pub returns : goal.returns
 returns g c =
     let row = g.T.Tariff.row in
     let m = g.P.Plant.model c.args.plant.now in
     let t = g.T.Tariff.scale c.args.tariff.now in
-    let lawful = g.met.P.Plant.lawful c.args.plant.now in
     let scaled = g.met.T.Tariff.lawful c.args.tariff.now in
     let fits = g.met.T.Tariff.fits c.args.tariff.now in
     let xs = c.args.values.now in
-    let none = sym c.first_refusal.ensures ∙ c.in_default.is in
-    let sound = sound_from m lawful t (map row xs) c.args.policy.now (row c.args.claims.low) (row c.args.claims.high) none in
-    let long : length xs ≡ m.states = sym (length-map xs row) ∙ sound.values.long in
-    let top = subst (λ o. FirstBest (dearer t) (slice_get (map row xs)) (length xs) (option_map (pick row) o)) c.in-Some-greatest.is (greatest_choice row t scaled fits xs c.greatest.result c.greatest.ensures) in
-    let bottom = subst (λ o. FirstBest (cheaper t) (slice_get (map row xs)) (length xs) (option_map (pick row) o)) c.in-Some-least.is (least_choice row t scaled fits xs c.least.result c.least.ensures) in
+    let none = sym c.tests.ensures ∙ ap result_err c.in_ok-tests.was in
+    let sound = sound_from m (g.met.P.Plant.lawful c.args.plant.now) t (map row xs) c.args.policy.now (row c.args.claims.low) (row c.args.claims.high) none in
+    let many : length xs ≡ m.states = sym (length-map xs row) ∙ sound.values.long in
+    let top = c.in_ok-top.top in
+    let bottom = c.in_ok-bottom.bottom in
     record {
       verdict = (
         none,
         record {
           low_kept = refl;
           high_kept = refl;
-          top_found = (c.in-Some-greatest.top.at, subst (λ n. Chosen (dearer t) (slice_get (map row xs)) n (pick row c.in-Some-greatest.top)) long top);
-          bottom_found = (c.in-Some-least.bottom.at, subst (λ n. Chosen (cheaper t) (slice_get (map row xs)) n (pick row c.in-Some-least.bottom)) long bottom);
+          top_found = (top.at, extreme_there row t scaled fits xs Greatest c.extreme.result c.extreme.ensures m.states many top (c.ok_or.ensures.ok_part ∙ ap result_ok c.in_ok-top.was));
+          bottom_found = (bottom.at, extreme_there row t scaled fits xs Least c.extreme-2.result c.extreme-2.ensures m.states many bottom (c.ok_or-2.ensures.ok_part ∙ ap result_ok c.in_ok-bottom.was));
         },
       );
       exact = sound;

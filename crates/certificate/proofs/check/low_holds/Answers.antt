@@ -1,17 +1,14 @@
-use Rattle.std.proofs.Common.{◌<◌, map, sym, ◌∙◌, arith}
-use Rattle.certificate.specs.Refusals.{low_test}
-use Rattle.certificate.proofs.Faults.{each_not, each_more}
+use Rattle.std.proofs.Common.{map, refl, ap, ◌∙◌, rules, arith}
+use borrow.Author.Tests.{tests}
+use Rattle.std.proofs.lemmas.Iterator.{YieldsList-from_range}
+use Rattle.std.proofs.lemmas.Iterator.Search.{all_from_yields_List}
+use Rattle.certificate.specs.Refusals.{each, low_test}
+use Rattle.certificate.proofs.Faults.{each_in_range}
 use Rattle.certificate.proofs.check.low_holds.Goals as goal
 
-pub returns-then-not-low_holds_at : goal.returns-then-not-low_holds_at
-returns-then-not-low_holds_at g c =
-    let m = g.P.Plant.model c.args.plant.now in
-    let p = low_test m (g.T.Tariff.scale c.args.tariff.now) (map g.T.Tariff.row c.args.values.now) (g.T.Tariff.row c.args.low) c.args.state in
-    let inside : c.loop-x.x < m.portfolios = omega arith in
-    sym (each_not p m.portfolios c.loop-x.x inside (sym c.low_holds_at.ensures ∙ c.if-not-low_holds_at.true))
-
-pub loop-x-preserved : goal.loop-x-preserved
-loop-x-preserved g c =
-    let m = g.P.Plant.model c.args.plant.now in
-    let p = low_test m (g.T.Tariff.scale c.args.tariff.now) (map g.T.Tariff.row c.args.values.now) (g.T.Tariff.row c.args.low) c.args.state in
-    each_more p c.loop-x.x c.loop-x.invariant (sym c.low_holds_at.ensures ∙ c.if-not-low_holds_at.false)
+pub returns : goal.returns
+returns g c =
+    let n = c.portfolios.result in
+    let p = low_test (g.P.Plant.model c.args.valued.now.plant.now) (g.T.Tariff.scale c.args.valued.now.tariff.now) (map g.T.Tariff.row c.args.valued.now.table.amounts.now) (g.T.Tariff.row c.args.low) c.args.state in
+    all_from_yields_List p _ _ c.all.result c.all.ensures.ran (YieldsList-from_range 0 n n refl (omega arith)) (λ x b q k. search (rules, tests))
+    ∙ each_in_range p n ∙ ap (each p) c.portfolios.ensures

@@ -1,19 +1,30 @@
-use Rattle.std.proofs.Common.{ℕ, Ok, Err, Result}
-use Rattle.interface.specs.Plants.{Model}
-use Rattle.interface.specs.Rows.{Row}
-use Rattle.interface.specs.Tariffs.{Scale}
-use Rattle.interface.specs.declared.claims.Claims.{Claims}
-use Rattle.planner.specs.declared.refusal.Refusal.{Refusal}
-use Rattle.planner.specs.Answers.{Tables, Answer, Only}
+use Rattle.std.proofs.Common.{map}
+use Rattle.lookahead.specs.Gains.{look_ahead}
+use Rattle.certificate.proofs.Claiming.{feasible_of}
+use Rattle.certificate.proofs.Refused.{fitting_to}
+use Rattle.certificate.specs.Certificates.{named}
+use Rattle.planner.proofs.Claimed.{recipe_there}
+use Rattle.planner.proofs.Sweeping.{swept_within}
 use Rattle.planner.proofs.Unique.{swept_one}
 use Rattle.planner.proofs.plan.plan.Goals as goal
 
-only : {A : Type 0} (row : A → Row) (m : Model) (t : Scale) (n : ℕ) (b b' : Tables A) (r : Result (Claims A) Refusal) → Answer row m t n b b' r → Only row m t n b' r
-only row m t n b b' (Ok c) h = λ vs swept. swept_one m t h.2.swept swept
-only row m t n b b' (Err e) h = tt
+pub choose-requires-clause-within : goal.choose-requires-clause-within
+choose-requires-clause-within g c = swept_within (g.P.Plant.model c.args.plant.now) (g.T.Tariff.scale c.args.tariff.now) c.in_ok-swept.ensures
 
-pub returns : goal.returns
-returns g c = record {
-  answer = c.plan_tables.ensures;
-  only = only g.T.Tariff.row (g.P.Plant.model c.args.plant.now) (g.T.Tariff.scale c.args.tariff.now) c.args.sweeps _ _ c.plan_tables.result c.plan_tables.ensures;
-}
+pub unwrap-requires : goal.unwrap-requires
+unwrap-requires g c =
+    let row = g.T.Tariff.row in
+    let m = g.P.Plant.model c.args.plant.now in
+    let t = g.T.Tariff.scale c.args.tariff.now in
+    let xs = c.sweep_all-swept.new.values in
+    let ps = c.choose.new.policy in
+    let chosen = c.choose.ensures in
+    let none = fitting_to row m t xs ps (record {
+      within = swept_within m t c.in_ok-swept.ensures;
+      policy = chosen.long;
+      feasible = λ s l. let least = chosen.each s l in (feasible_of m (look_ahead m t (map row xs)) s (named ps s) least.0 least.1.there).0;
+    }) in
+    recipe_there row m t (map row xs) ps c.recipe.result c.recipe.ensures none
+
+pub returns-clause-only : goal.returns-clause-only
+returns-clause-only g c = λ vs swept. swept_one (g.P.Plant.model c.args.plant.now) (g.T.Tariff.scale c.args.tariff.now) c.in_ok-swept.ensures swept

@@ -13,11 +13,11 @@ loop-state-preserved g c =
     let vs = map row c.args.values.now in
     let ps = c.loop-state.policy in
     let s = c.loop-state.state in
-    let x = c.least_ahead-least.result.at in
+    let x = c.least_ahead.result.at in
     let inside : s < length ps = omega arith in
     below_more (λ k. (u : Row) × LeastAhead m t vs k (named (set ps s x) k) u) s
     (λ k l.
     let other : k ≢ s = omega arith in
     let before = c.loop-state.invariant k l in
     (before.0, subst (λ y. LeastAhead m t vs k y before.0) (sym (get_or-set_other ps s k x 0 other)) before.1))
-    (row c.least_ahead-least.result.amount, subst (λ y. LeastAhead m t vs s y (row c.least_ahead-least.result.amount)) (sym (get_or-set_same ps s x 0 inside)) c.least_ahead-least.ensures)
+    (row c.least_ahead.result.amount, subst (λ y. LeastAhead m t vs s y (row c.least_ahead.result.amount)) (sym (get_or-set_same ps s x 0 inside)) c.least_ahead.ensures)

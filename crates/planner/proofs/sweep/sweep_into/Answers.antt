@@ -1,4 +1,4 @@
-use Rattle.std.proofs.Common.{◌≡◌, ◌<◌, ◌≤◌, ◌≢◌, map, length, set, sym, ◌∙◌, subst, arith, below_more}
+use Rattle.std.proofs.Common.{◌≡◌, ◌<◌, ◌≤◌, ◌≢◌, map, length, set, refl, sym, ◌∙◌, subst, arith, below_more}
 use Rattle.std.proofs.lemmas.List.{length-map}
 use Rattle.interface.specs.Rows.{reach}
 use Rattle.lookahead.specs.Gains.{most_value}
@@ -19,20 +19,23 @@ apart-value-requires g c =
 
 pub returns-then-reach-gt-MOST_VALUE : goal.returns-then-reach-gt-MOST_VALUE
 returns-then-reach-gt-MOST_VALUE g c =
-    let row = g.T.Tariff.row in
-    record {
-      inside = omega arith;
-      value = row c.apart-value.result;
-      new = record {
-        own = row c.least_share.result;
-        base = row c.least_share-base.result;
-        own_is = c.least_share.ensures;
-        base_is = c.least_share-base.ensures;
-        is = c.apart-value.ensures;
-      };
-      far = omega arith;
-      first = λ k l. let fresh = c.loop-state.invariant k l in (_, fresh.new, fresh.near);
-    }
+    let row = g.T.Tariff.row in (
+      c.loop-state.state,
+      refl,
+      record {
+        inside = omega arith;
+        value = row c.apart-value.result;
+        new = record {
+          own = row c.least_share.result;
+          base = row c.least_share-base.result;
+          own_is = c.least_share.ensures;
+          base_is = c.least_share-base.ensures;
+          is = c.apart-value.ensures;
+        };
+        far = omega arith;
+        first = λ k l. let fresh = c.loop-state.invariant k l in (_, fresh.new, fresh.near);
+      },
+    )
 
 pub loop-state-preserved : goal.loop-state-preserved
 loop-state-preserved g c =

@@ -1,42 +1,23 @@
-use Rattle.std.proofs.Common.{◌≡◌, map, sym, ap, ◌∙◌, subst, arith}
+use Rattle.std.proofs.Common.{◌≡◌, map, sym, ap, ◌∙◌, subst, rules}
 use Rattle.std.specs.Option.{option_map}
-use Rattle.lookahead.specs.Best.{first_best, better, cheaper, where_feasible, FirstBest}
+use Rattle.lookahead.specs.Best.{first_best, FirstBest, cheaper, where_feasible}
 use Rattle.lookahead.specs.Choices.{pick}
-use Rattle.lookahead.specs.Gains.{Within, gain}
-use Rattle.lookahead.specs.Steps.{gain_steps}
-use Rattle.lookahead.proofs.Bounds.{fits_map, gain_answer}
-use Rattle.lookahead.proofs.Firsts.{first_best_same}
-use Rattle.lookahead.proofs.Leasts.{first_best_more, gain_fits, least_law}
+use Rattle.lookahead.specs.Gains.{gain}
+use Rattle.lookahead.proofs.Bounds.{fits_map}
+use Rattle.lookahead.proofs.Leasts.{gain_fits, least_law}
+use Rattle.lookahead.proofs.Optional.{answered}
 use Rattle.lookahead.proofs.table.ValueTable.least_gain.Goals as goal
 
-pub loop-x-preserved : goal.loop-x-preserved
-loop-x-preserved g c =
-    let row = g.T.Tariff.row in
-    let t = g.T.Tariff.scale c.args.tariff.now in
-    let f = gain_steps (g.P.Plant.model c.args.plant.now) t (map row c.args.self.now.amounts.now) c.args.state in
-    c.keep_least-least.ensures
-    ∙ ap (λ z. better (cheaper t) z c.loop-x.x (option_map row c.gain-gain.result)) c.loop-x.invariant
-    ∙ ap (better (cheaper t) (first_best (cheaper t) f c.loop-x.x) c.loop-x.x) c.gain-gain.ensures.steps
-    ∙ sym (first_best_more (cheaper t) f c.loop-x.x)
-
-pub returns : goal.returns
-returns g c =
-    let row = g.T.Tariff.row in
+pub returns-clause-least : goal.returns-clause-least
+returns-clause-least g c = λ w.
     let m = g.P.Plant.model c.args.plant.now in
     let t = g.T.Tariff.scale c.args.tariff.now in
-    let scaled = g.met.T.Tariff.lawful c.args.tariff.now in
-    let lawful = g.met.P.Plant.lawful c.args.plant.now in
-    let vs = map row c.args.self.now.amounts.now in
+    let row = g.T.Tariff.row in
+    let xs = c.args.self.now.amounts.now in
+    let fit = fits_map row t.places (g.met.T.Tariff.fits c.args.tariff.now) xs in
+    let F = gain m t (map row xs) in
     let s = c.args.state in
-    let fit = fits_map row t.places (g.met.T.Tariff.fits c.args.tariff.now) c.args.self.now.amounts.now in
-    let all : c.loop-x.x ≡ m.portfolios = omega arith in
-    let steps : option_map (pick row) c.loop-x.least ≡ first_best (cheaper t) (gain_steps m t vs s) m.portfolios =
-    c.loop-x.invariant ∙ ap (first_best (cheaper t) (gain_steps m t vs s)) all in
-    let F = gain m t vs in
-    let near : Within m vs → option_map (pick row) c.loop-x.least ≡ first_best (cheaper t) (where_feasible m F s) m.portfolios =
-    λ w. steps ∙ first_best_same (cheaper t) (gain_steps m t vs s) (where_feasible m F s) m.portfolios (λ k _. gain_answer m lawful t scaled vs w fit s k) in
-    record {
-      steps = steps;
-      within = near;
-      least = λ w. subst (FirstBest (cheaper t) (where_feasible m F s) m.portfolios) (sym (near w)) (least_law m t scaled F (gain_fits m lawful t scaled vs w.long fit) s m.portfolios);
-    }
+    let asked = c.first_best.ensures (where_feasible m F s) (λ x r l p. answered row r (m.feasible s x) (F s x) (search rules)) in
+    let is : option_map (pick row) c.first_best.result ≡ first_best (cheaper t) (where_feasible m F s) m.portfolios = asked ∙ ap (first_best (cheaper t) (where_feasible m F s)) c.portfolios.ensures in
+    subst (FirstBest (cheaper t) (where_feasible m F s) m.portfolios) (sym is)
+    (least_law m t (g.met.T.Tariff.lawful c.args.tariff.now) F (gain_fits m (g.met.P.Plant.lawful c.args.plant.now) t (g.met.T.Tariff.lawful c.args.tariff.now) (map row xs) w.long fit) s m.portfolios)

@@ -1,7 +1,0 @@
-use Rattle.std.proofs.Common.{◌≡◌, map, None}
-use Rattle.certificate.specs.Refusals.{first_fault, state_fault}
-use Rattle.certificate.proofs.check.first_broken.Given as goal
-
-abbrev pub invariant-loop-state : goal.invariant-loop-state
-invariant-loop-state g l =
-    first_fault (state_fault (g.P.Plant.model l.plant) (g.T.Tariff.scale l.tariff) (map g.T.Tariff.row l.values) l.policy (g.T.Tariff.row l.claims.low) (g.T.Tariff.row l.claims.high)) l.state ≡ None
