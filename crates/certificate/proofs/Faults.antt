@@ -23,13 +23,6 @@ module _ {A : Type 0} (f : ℕ → Option A) where
       (λ same. ap (λ z. or_else z (f n)) (subst (λ k. first_fault f k ≡ None) same h) ∙ subst (λ k. f k ≡ Some a) same e)
       (λ other. ap (λ z. or_else z (f n)) (fault_at n i a (omega arith) h e)) (cases_eq i n)
 
-  pub fault_here : (n i : ℕ) → i < n → first_fault f i ≡ None → is_some (f i) ≡ true → first_fault f n ≡ f i
-  fault_here n i l h e = by_case (f i) refl e
-    where
-      by_case : (o : Option A) → f i ≡ o → is_some o ≡ true → first_fault f n ≡ f i
-      by_case None q e = let z : ◌≡◌ {A = ℕ} 0 1 = cc in absurd (omega arith)
-      by_case (Some a) q e = fault_at n i a l h q ∙ sym q
-
   pub none_below : (n k : ℕ) → first_fault f n ≡ None → k < n → f k ≡ None
   none_below zero k h l = absurd (omega arith)
   none_below (suc n) k h l = ⊎_elim
@@ -90,10 +83,6 @@ each_in_range p n = all_each p 0 n ∙ each_same (λ k. p (0 + k)) p (λ k. ap p
 -- the value of a state is the row of its amount
 pub value_read : {A : Type 0} (row : A → Row) (t : Scale) (xs : List A) (s : ℕ) (x : A) → s < length xs → x ≡ get_or xs s x → value_of t (map row xs) s ≡ row x
 value_read row t xs s x l e = get_or-map row xs s x (zeros t.places) l ∙ ap row (sym e)
-
-pub none_of : {A : Type 0} (o : Option A) → is_some o ≡ false → o ≡ None
-none_of None h = refl
-none_of (Some a) h = let z : ◌≡◌ {A = ℕ} 0 1 = cc in absurd (omega arith)
 
 -- lengths, of amounts or of their rows
 pub level_map : {A : Type 0} (row : A → Row) (m : Model) (xs : List A) (ps : List ℕ) → level m (map row xs) ps ≡ (eqb (length xs) m.states && eqb (length ps) m.states)

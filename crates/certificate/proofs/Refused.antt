@@ -13,10 +13,6 @@ use Rattle.certificate.specs.Refusals.{or_else, first_fault, value_fault, state_
 use Rattle.certificate.proofs.Faults.{level_map, or_none, none_below, none_from}
 use Rattle.certificate.proofs.Soundness.{near_from, near_to, passed}
 
-pub or_first : {A : Type 0} (x y : Option A) → is_some x ≡ true → or_else x y ≡ x
-or_first None y h = let z : ◌≡◌ {A = ℕ} 0 1 = cc in absurd (omega arith)
-or_first (Some a) y h = refl
-
 -- both tables have n entries, of the plant's number of states
 module _ {A : Type 0} (row : A → Row) (m : Model) (xs : List A) (ps : List ℕ) (same : (eqb (length xs) m.states && eqb (length ps) m.states) ≡ true) where
   pub values_long : length xs ≡ m.states
@@ -30,26 +26,6 @@ module _ {A : Type 0} (row : A → Row) (m : Model) (xs : List A) (ps : List ℕ
     long = length-map xs row ∙ values_long;
     near = near_from t (map row xs) (subst (λ n. first_fault (value_fault t (map row xs)) n ≡ None) (sym (length-map xs row)) h);
   }
-
-  pub recipe_later : (t : Scale) → recipe_refusal m t (map row xs) ps ≡ or_else (first_fault (value_fault t (map row xs)) (length xs)) (first_fault (policy_fault m ps) (length ps))
-  recipe_later t =
-      cond-true (level m (map row xs) ps) _ _ (level_map row m xs ps ∙ same)
-      ∙ ap (λ n. or_else (first_fault (value_fault t (map row xs)) n) (first_fault (policy_fault m ps) m.states)) (sym values_long)
-      ∙ ap (λ n. or_else (first_fault (value_fault t (map row xs)) (length xs)) (first_fault (policy_fault m ps) n)) (sym policy_long)
-
-  module _ (t : Scale) (low high : Row) where
-    pub refused_claim : (leb (reach low) most_claim && leb (reach high) most_claim) ≡ false → refusal m t (map row xs) ps low high ≡ Some (BeyondReach m.states)
-    refused_claim far =
-        cond-true (level m (map row xs) ps) _ _ (level_map row m xs ps ∙ same)
-        ∙ cond-false (leb (reach low) most_claim && leb (reach high) most_claim) _ _ far
-
-    pub refused_later : (leb (reach low) most_claim && leb (reach high) most_claim) ≡ true
-        → refusal m t (map row xs) ps low high ≡ or_else (first_fault (value_fault t (map row xs)) (length xs)) (first_fault (state_fault m t (map row xs) ps low high) (length ps))
-    refused_later near =
-        cond-true (level m (map row xs) ps) _ _ (level_map row m xs ps ∙ same)
-        ∙ cond-true (leb (reach low) most_claim && leb (reach high) most_claim) _ _ near
-        ∙ ap (λ n. or_else (first_fault (value_fault t (map row xs)) n) (first_fault (state_fault m t (map row xs) ps low high) m.states)) (sym values_long)
-        ∙ ap (λ n. or_else (first_fault (value_fault t (map row xs)) (length xs)) (first_fault (state_fault m t (map row xs) ps low high) n)) (sym policy_long)
 
 -- what the recipe's tests have shown when none fails
 pub record Fitting (m : Model) (vs : List Row) (ps : List ℕ) : Type 0 where

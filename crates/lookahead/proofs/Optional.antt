@@ -11,11 +11,6 @@ pub answered : {A : Type 0} (row : A → Row) (r : Option A) (b : Bool) (u : Row
 answered row None b u h = sym (ap (λ z. cond z (Some u) None) h)
 answered row (Some a) b u h = ap {B = Option Row} Some h.1 ∙ sym (ap (λ z. cond z (Some u) None) h.0)
 
-pub nth_map : {A B : Type 0} (f : A → B) (xs : List A) (i : ℕ) → slice_get (map f xs) i ≡ option_map f (slice_get xs i)
-nth_map f [] i = refl
-nth_map f (x ∷ xs) zero = refl
-nth_map f (x ∷ xs) (suc i) = nth_map f xs i
-
 pub drop_nth : {A : Type 0} (xs : List A) (i : ℕ) (x : A) → slice_get xs i ≡ Some x → drop i xs ≡ x ∷ drop (i + 1) xs
 drop_nth [] i x h = let z : ◌≡◌ {A = ℕ} 0 1 = cc in absurd (omega arith)
 drop_nth (y ∷ ys) zero x h = let e : y ≡ x = cc in ap (λ w. w ∷ ys) e
@@ -32,10 +27,3 @@ answers row None true u h = let z : ◌≡◌ {A = ℕ} 0 1 = cc in absurd (omeg
 answers row None false u h = refl
 answers row (Some a) true u h = (refl, cc)
 answers row (Some a) false u h = let z : ◌≡◌ {A = ℕ} 0 1 = cc in absurd (omega arith)
-
--- the value of a state, where the table has one
-pub table_value : {A : Type 0} (row : A → Row) (xs : List A) (i : ℕ) (x : A) → i < length xs → x ≡ get_or xs i x → slice_get (map row xs) i ≡ Some (row x)
-table_value row xs i x l e = nth_map row xs i ∙ ap (option_map row) (slice_get_read xs (length xs) i x refl l e)
-
-pub table_past : {A : Type 0} (row : A → Row) (xs : List A) (i : ℕ) → length xs ≤ i → slice_get (map row xs) i ≡ None
-table_past row xs i l = slice_get_past (map row xs) i (simp length-map l)
