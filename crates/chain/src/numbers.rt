@@ -15,7 +15,8 @@ pub struct Part {
     pub dark: u32,
 }
 
-// Part i is at index i - 1. What lies beyond the parts and the arcs is ignored.
+// Part i is at index i - 1. What lies beyond the parts and the arcs is ignored. The tables have a count beside them, since
+// these are any numbers, to be refused by Chain::new: a list that cannot hold a count out of range would ask more of callers.
 #[derive(Clone, Copy)]
 pub struct ChainNumbers {
     // How many parts there are.

@@ -42,7 +42,7 @@ pub fn holds(portfolio: usize, part: usize) -> bool
     (portfolio >> (part - 1)) % 2 == 1
 }
 
-// The lesser of two numbers, each of which may be absent.
+// The lesser of two numbers, each of which may be absent. Option has no method for it, and two of them are no plainer than the cases.
 fn lesser(best: Option<u64>, other: Option<u64>) -> Option<u64>
     ensures { result ≡ the_lesser best other }
 {
@@ -58,11 +58,7 @@ fn usable_cents(arc: Arc, done: usize, part: usize) -> Option<u64>
     ensures cents { Usable done part arc result }
     ensures small { AtMost (2 ^ 32) result }
 {
-    if arc.to == part && (arc.from == 0 || holds(done, arc.from)) {
-        Some(u64::from(arc.cents))
-    } else {
-        None
-    }
+    (arc.to == part && (arc.from == 0 || holds(done, arc.from))).then_some(u64::from(arc.cents))
 }
 
 // The cents of the cheapest arc to the part from the door or from a part of the portfolio done.
@@ -144,6 +140,7 @@ pub fn least_work_orders(arcs: &[Arc]) -> [Option<u64>; PORTFOLIOS]
     ensures bounded { (x m : ℕ) → x < portfolios → NoneDearer m arcs.now → AtMost (max_parts * m) (slice_index_or result x None) }
 {
     let mut table = first_table();
+    // By number: an entry could not be lent while the whole table is read for it.
     for portfolio in 1..PORTFOLIOS {
         let least = least_for(arcs, &table, portfolio);
         table[portfolio] = least;

@@ -1,11 +1,8 @@
 use Rattle.std.proofs.Common.{◌^◌}
 use Rattle.std.proofs.lemmas.List.{take_all}
-use Rattle.workorder.proofs.Arcs.{no_arc, cheapest_more}
+use Rattle.workorder.proofs.Arcs.{cheapest_more}
 use Rattle.workorder.proofs.Leasts.{lesser_at_most}
 use Rattle.workorder.proofs.cheapest_arc.Goals as goal
-
-pub loop-arc-init : goal.loop-arc-init
-loop-arc-init c = (no_arc c.args.done c.args.part, tt)
 
 pub loop-arc-preserved : goal.loop-arc-preserved
 loop-arc-preserved c = (

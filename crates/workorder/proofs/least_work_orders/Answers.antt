@@ -1,15 +1,10 @@
-use Rattle.workorder.proofs.WorkOrders.{right_first, right_more, table_bounded, table_only}
+use Rattle.workorder.proofs.WorkOrders.{right_first, table_bounded, table_only}
 use Rattle.workorder.proofs.least_work_orders.Goals as goal
 use Rattle.workorder.specs.Orders.{LeastTable}
 use Rattle.std.proofs.Common.{arith}
 
 pub loop-portfolio-init : goal.loop-portfolio-init
 loop-portfolio-init c = right_first c.args.arcs.now c.first_table-table.result c.first_table-table.ensures
-
-pub loop-portfolio-preserved : goal.loop-portfolio-preserved
-loop-portfolio-preserved c =
-    right_more c.args.arcs.now c.loop-portfolio.portfolio c.loop-portfolio.table c.least_for-least.result (omega arith)
-    c.loop-portfolio.invariant c.least_for-least.ensures.least c.least_for-least.ensures.small
 
 pub returns : goal.returns
 returns c =

@@ -4,9 +4,3 @@ use Rattle.workorder.proofs.without.Goals as goal
 
 pub overflow_shl-result : goal.overflow_shl-result
 overflow_shl-result c = let f : c.args.portfolio < 2 ^ 64 = omega arith in (part_counts 64 c.args.portfolio c.args.part f c.requires).0
-
-pub overflow_sub-result-2 : goal.overflow_sub-result-2
-overflow_sub-result-2 c = let f : c.args.portfolio < 2 ^ 64 = omega arith in let p = part_counts 64 c.args.portfolio c.args.part f c.requires in omega (arith, p)
-
-pub returns : goal.returns
-returns c = let f : c.args.portfolio < 2 ^ 64 = omega arith in let p = part_counts 64 c.args.portfolio c.args.part f c.requires in rw p.1
