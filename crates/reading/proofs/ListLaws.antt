@@ -1,12 +1,11 @@
--- The numbers of a list, written from the last one back.
-use Rattle.std.proofs.Common.{◌≡◌, ℕ, suc, ◌+◌, ◌-◌, ◌<◌, ◌≤◌, Bool, true, false, cond, not, leb, List, [], ◌∷◌, ◌++◌, length, take, drop, set, replicate, is_some, Some, None, Option, unwrap_or, sym, refl, ap, ◌∙◌, arith, Bor}
+-- The numbers of a list, written one after the other.
+use Rattle.std.proofs.Common.{◌≡◌, ℕ, suc, ◌+◌, ◌-◌, ◌<◌, ◌≤◌, Bool, true, false, cond, not, leb, List, [], ◌∷◌, ◌++◌, length, take, drop, set, replicate, is_some, Some, None, Option, sym, refl, ap, ◌∙◌, arith, Bor}
 use native.Mathlib.Nat.{sub-zero}
-use borrow.Rule.Slice.PartMut.{put_mid}
-use Rattle.std.proofs.lemmas.List.{append_assoc, append-nil, take_rest, take_all, take_more_set, drop_all, drop-replicate}
+use Rattle.std.proofs.lemmas.List.{append_assoc, append-nil, take_all, take_more_set, drop-replicate}
 use Rattle.std.proofs.lemmas.Iterator.Adapters.{option_map_id}
 use Rattle.std.specs.Bool.{then_some}
 use Rattle.std.specs.Option.{option_map}
-use Rattle.std.proofs.lemmas.Bool.{le-leb, cond-true, true≢false, not-true, not-false}
+use Rattle.std.proofs.lemmas.Bool.{le-leb, cond-true, true≢false}
 use Rattle.lines.specs.Fields.{NextOf}
 use Rattle.lines.specs.Numeral.{numeral}
 use Rattle.reading.specs.Values.{at_least, in_front, numbers_of, list_of, padded, padded_list}
@@ -15,70 +14,6 @@ use Rattle.reading.specs.Values.{at_least, in_front, numbers_of, list_of, padded
 from_zero : (o : Option ℕ) → at_least 0 o ≡ o
 from_zero None = refl
 from_zero (Some n) = cond-true _ _ _ (le-leb 0 n (omega arith))
-
--- what is lent behind the first place, and what its writing leaves
-lent : (x : ℕ) (xs : List ℕ) → take (length (x ∷ xs) - 1) (drop 1 (x ∷ xs)) ≡ xs
-lent x xs = take_rest (x ∷ xs) 1
-
-written : (x : ℕ) (xs ys : List ℕ) → put_mid 1 (length (x ∷ xs) - 1) (x ∷ xs) ys ≡ x ∷ ys
-written x xs ys = ap (λ l. x ∷ (ys ++ l)) (drop_all (length (x ∷ xs) - 1) xs (omega arith)) ∙ ap (λ l. x ∷ l) (append-nil ys)
-
--- the fields from the first one on
-numbers_first : (fs gs : List (List ℕ)) (f : List ℕ) (most n x : ℕ) (xs : List ℕ) → fs ≡ f ∷ gs → Some n ≡ at_least 0 (numeral f most) → numbers_of fs most (length (x ∷ xs)) ≡ in_front (Some n) (numbers_of gs most (length xs))
-numbers_first fs gs f most n x xs e h =
-    ap (λ l. numbers_of l most (length (x ∷ xs))) e ∙ ap (λ o. in_front o (numbers_of gs most (length xs))) (sym (from_zero (numeral f most)) ∙ sym h)
-
--- the answer for a list and what is left in its place
-abbrev pub Answered : Option (List ℕ) → Bool → List ℕ → List ℕ → Type 0
-Answered o r before after = (r ≡ is_some o) × (after ≡ unwrap_or o before)
-
-abbrev pub part_of : List ℕ → List ℕ
-part_of out = take (length out - 1) (drop 1 out)
-
-refused_rest : (o : Option (List ℕ)) (before last : List ℕ) → Answered o false before last → (o ≡ None) × (last ≡ before)
-refused_rest None before last a = (refl, a.1)
-refused_rest (Some ns) before last a = absurd (true≢false (sym a.0))
-
-accepted_rest : (o : Option (List ℕ)) (before last : List ℕ) → Answered o true before last → o ≡ Some last
-accepted_rest None before last a = absurd (true≢false a.0)
-accepted_rest (Some ns) before last a = ap Some (sym a.1)
-
-module _ (fs gs : List (List ℕ)) (f : List ℕ) (most n x : ℕ) (xs last : List ℕ) (e : fs ≡ f ∷ gs) (h : Some n ≡ at_least 0 (numeral f most)) where
-  -- the numbers of all fields, by those of the rest
-  whole : (o : Option (List ℕ)) → numbers_of gs most (length (part_of (x ∷ xs))) ≡ o → numbers_of fs most (length (x ∷ xs)) ≡ in_front (Some n) o
-  whole o q = numbers_first fs gs f most n x xs e h ∙ ap (λ l. in_front (Some n) (numbers_of gs most (length l))) (sym (lent x xs)) ∙ ap (in_front (Some n)) q
-
-  stop : Answered (numbers_of gs most (length (part_of (x ∷ xs)))) false (part_of (x ∷ xs)) last → Answered (numbers_of fs most (length (x ∷ xs))) false (x ∷ xs) (put_mid 1 (length (x ∷ xs) - 1) (x ∷ xs) last)
-  stop a =
-      let r = refused_rest _ _ _ a in
-      let none : numbers_of fs most (length (x ∷ xs)) ≡ None = whole None r.0 in
-      (sym (ap is_some none), written x xs last ∙ ap (λ l. x ∷ l) (r.1 ∙ lent x xs) ∙ sym (ap (λ o. unwrap_or o (x ∷ xs)) none))
-
-  done : Answered (numbers_of gs most (length (part_of (x ∷ xs)))) true (part_of (x ∷ xs)) last → Answered (numbers_of fs most (length (x ∷ xs))) true (x ∷ xs) (set (put_mid 1 (length (x ∷ xs) - 1) (x ∷ xs) last) 0 n)
-  done a =
-      let all : numbers_of fs most (length (x ∷ xs)) ≡ Some (n ∷ last) = whole (Some last) (accepted_rest _ _ _ a) in
-      (sym (ap is_some all), ap (λ l. set l 0 n) (written x xs last) ∙ sym (ap (λ o. unwrap_or o (x ∷ xs)) all))
-
--- a rest that is refused leaves all as it was
-pub numbers_stop : (fs gs : List (List ℕ)) (f : List ℕ) (most n : ℕ) (out last : List ℕ) → (length out ≡ 0 → ⊥) → fs ≡ f ∷ gs → Some n ≡ at_least 0 (numeral f most) → Answered (numbers_of gs most (length (part_of out))) false (part_of out) last → Answered (numbers_of fs most (length out)) false out (put_mid 1 (length out - 1) out last)
-numbers_stop fs gs f most n [] last some e h a = absurd (some refl)
-numbers_stop fs gs f most n (x ∷ xs) last some e h a = stop fs gs f most n x xs last e h a
-
--- a rest that is read has the number put in front
-pub numbers_done : (fs gs : List (List ℕ)) (f : List ℕ) (most n : ℕ) (out last : List ℕ) → (length out ≡ 0 → ⊥) → fs ≡ f ∷ gs → Some n ≡ at_least 0 (numeral f most) → Answered (numbers_of gs most (length (part_of out))) true (part_of out) last → Answered (numbers_of fs most (length out)) true out (set (put_mid 1 (length out - 1) out last) 0 n)
-numbers_done fs gs f most n [] last some e h a = absurd (some refl)
-numbers_done fs gs f most n (x ∷ xs) last some e h a = done fs gs f most n x xs last e h a
-
--- no place is left: accepted exactly where no field is
-pub numbers_over : (fs gs : List (List ℕ)) (o : Option (Bor (List ℕ))) (r : Bool) (most : ℕ) (out : List ℕ) → length out ≡ 0 → NextOf fs o gs → is_some o ≡ not r → Answered (numbers_of fs most (length out)) r out out
-numbers_over fs gs None r most (x ∷ xs) z h q = absurd (omega arith)
-numbers_over fs gs (Some f) r most (x ∷ xs) z h q = absurd (omega arith)
-numbers_over fs gs None r most [] z h q =
-    let none : numbers_of fs most 0 ≡ Some [] = ap (λ l. numbers_of l most 0) h.0 in
-    (not-false r (sym q) ∙ sym (ap is_some none), sym (ap (λ p. unwrap_or p []) none))
-numbers_over fs gs (Some f) r most [] z h q =
-    let none : numbers_of fs most 0 ≡ None = ap (λ l. numbers_of l most 0) h in
-    (not-true r (sym q) ∙ sym (ap is_some none), sym (ap (λ p. unwrap_or p []) none))
 
 -- some numbers that were read already, in front of those that are still to be read
 abbrev pub onto : List ℕ → Option (List ℕ) → Option (List ℕ)

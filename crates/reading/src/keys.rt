@@ -1,6 +1,6 @@
 // The keys of the lines.
 ghost use Rattle.std.specs.Prelude.{◌≡◌};
-ghost use Rattle.reading.specs.Keys.{name_of, key_of, Names, ReadsKey};
+ghost use Rattle.reading.specs.Keys.{name_of, Names};
 
 #[derive(Clone, Copy, PartialEq, Eq, Debug)]
 pub enum Key {
@@ -94,12 +94,4 @@ impl From<&[u8]> for Key {
             .find(|key| name == key.name())
             .unwrap_or(Key::Other)
     }
-}
-
-// The key with this name.
-pub fn key_of(name: &[u8]) -> Key
-    ensures value { result ≡ key_of name.now }
-    ensures law { ReadsKey name.now result }
-{
-    Key::from(name)
 }

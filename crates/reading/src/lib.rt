@@ -4,4 +4,3 @@
 pub mod keys;
 pub mod rules;
 pub mod values;
-pub mod words;
