@@ -167,14 +167,11 @@ impl ChainReader {
     fn rising(&self, arc: Arc) -> bool
         ensures { result ≡ rising self.now arc }
     {
-        if self.arc_count == 0 {
-            return true;
-        }
-        if self.arc_count > MOST_ARCS {
+        let Some(arcs) = self.arcs.get(..self.arc_count) else {
             return false;
-        }
-        let last = self.arcs[self.arc_count - 1];
-        (last.from, last.to) < (arc.from, arc.to)
+        };
+        arcs.last()
+            .is_none_or(|last| (last.from, last.to) < (arc.from, arc.to))
     }
 
     // arc=from,to,cents
