@@ -1,5 +1,5 @@
 -- The values of a plan's lines: amounts read place by place, and back to their texts.
-use Rattle.std.proofs.Common.{◌≡◌, ℕ, zero, suc, ◌+◌, ◌^◌, ◌<◌, ◌≤◌, Bool, true, false, cond, List, [], ◌∷◌, ◌++◌, map, length, is_some, take, set, ℤ, Some, None, decimal, Option, sym, refl, ap, ◌∙◌, subst, arith, lit<, rules}
+use Rattle.std.proofs.Common.{◌≡◌, ℕ, zero, suc, ◌+◌, ◌^◌, ◌<◌, ◌≤◌, Bool, true, false, cond, List, [], ◌∷◌, ◌++◌, map, length, take, set, ℤ, Some, None, decimal, Option, sym, refl, ap, ◌∙◌, subst, arith, lit<, rules}
 use lib.Signed.{mag}
 use Rattle.std.specs.Option.{option_map}
 use Rattle.std.specs.Fmt.{signed_decimal}
@@ -143,7 +143,3 @@ entry_forth places s x u low few h =
 pub entry_fields : (places s x : ℕ) (u : Row) → s ≤ most_states → x ≤ most_portfolio → Held places u → fields (joined (decimal s ∷ (decimal x ∷ map signed_decimal u))) ≡ decimal s ∷ (decimal x ∷ map signed_decimal u)
 entry_fields places s x u low few h =
     fields_joined (decimal s ∷ (decimal x ∷ map signed_decimal u)) (omega arith) (decimal_free comma (lit< tt) s (omega arith), (decimal_free comma (lit< tt) x (omega arith), free_places u h.each))
-
-pub not_some : {A : Type 0} (o : Option A) → is_some o ≡ false → o ≡ None
-not_some None h = refl
-not_some (Some a) h = cc
