@@ -3,6 +3,8 @@ use Rattle.std.proofs.Common.{◌≡◌, ℕ, zero, suc, ◌+◌, ◌-◌, ◌<�
 use native.Mathlib.Nat.{sub-zero}
 use Rattle.std.specs.List.{slice_get, range_with_len}
 use Rattle.std.proofs.lemmas.List.{append_assoc, append-nil, length-append, length-map}
+use Rattle.std.proofs.lemmas.List.FromFn.{length-map-range_with_len}
+use Rattle.std.proofs.lemmas.Option.{slice_get-get_or}
 use Rattle.std.proofs.lemmas.Bool.{le-leb, eq-eqb}
 use Rattle.interface.specs.Limits.{most_states}
 use Rattle.lines.specs.Placed.{fits, end_of, placed}
@@ -14,21 +16,11 @@ use Rattle.plantext.specs.Lines.{Plan, stages, plan_lines, concat, plan_text, st
 use Rattle.plantext.specs.Spaces.{level, line_room, line_answer, line_space, AnswersLine, Tight}
 
 -- a plan has a line for each state and four more
-counting_long : (s n : ℕ) → length (range_with_len s n) ≡ n
-counting_long s zero = refl
-counting_long s (suc n) = ap suc (counting_long (s + 1) n)
-
 pub lines_long : (p : Plan) → length (plan_lines p) ≡ length p.values + 4
 lines_long p =
     let n = length p.values in
     let rows = map Row (range_with_len 0 n) in
-    omega (arith, length-map (stages n) (stage_line p), length-append rows (End ∷ []), length-map (range_with_len 0 n) Row, counting_long 0 n)
-
--- what stands at a number below the length
-nth_there : {A : Type 0} (xs : List A) (j : ℕ) → j < length xs → slice_get xs j ≡ None → ⊥
-nth_there [] j l e = omega arith
-nth_there (x ∷ xs) zero l e = let z : ◌≡◌ {A = ℕ} 0 1 = cc in omega arith
-nth_there (x ∷ xs) (suc j) l e = nth_there xs j (omega arith) e
+    omega (arith, length-map (stages n) (stage_line p), length-append rows (End ∷ []), length-map-range_with_len Row 0 n)
 
 concat_more : (ls : List (List ℕ)) (j : ℕ) (l : List ℕ) → slice_get ls j ≡ Some l → concat (take (suc j) ls) ≡ concat (take j ls) ++ l
 concat_more [] j l e = let z : ◌≡◌ {A = ℕ} 0 1 = cc in absurd (omega arith)
@@ -90,7 +82,7 @@ module _ (p : Plan) (j : ℕ) (space space' : List ℕ) where
     not_absent h = absent (slice_get (plan_lines p) j) refl (h.answer ∙ ap (λ t. line_answer t (slice_get (plan_lines p) j) space) levelled)
       where
         absent : (o : Option (List ℕ)) → slice_get (plan_lines p) j ≡ o → Ok None ≡ line_answer true o space → ⊥
-        absent None q e = nth_there (plan_lines p) j (omega (arith, lines_long p)) q
+        absent None q e = let found = slice_get-get_or (plan_lines p) j [] (omega (arith, lines_long p)) in cc
         absent (Some l) q e = tested (fits l 0 space) e
           where
             tested : (t : Bool) → Ok None ≡ cond t (Ok (Some (length l))) (Err NoSpace) → ⊥
