@@ -249,17 +249,6 @@ module _ (places n : ℕ) (whole : List ℕ) (total : Option PlanRefusal) (j : �
         subst (λ d. SoFar places n whole total d b.plan (j + 1) (rest_at text)) (sym (t.next ∙ ap (λ m. Some (after_row m s)) h.values_long)) (row_step s h good t (ltb (s + 1) n) refl)
     line_step (Some End) some any h good t = subst (λ d. SoFar places n whole total d b.plan (j + 1) (rest_at text)) (sym t.next) (end_step h good t)
 
--- behind the first line
-pub started : (places n j : ℕ) (p : Plan) (text : List ℕ) (due : Option Stage) → due ≡ Some Low → length p.values ≡ n → length p.policy ≡ n → SoFar places n (states_line n ++ text) (first_fault places (stages_behind n) j text) due p j text
-started places n j p text due is vs xs = subst (λ d. SoFar places n (states_line n ++ text) (first_fault places (stages_behind n) j text) d p j text) (sym is) (record {
-  faults = refl;
-  inside = tt;
-  values_long = vs;
-  policy_long = xs;
-  text = sym (ap (λ m. (states_line m ++ []) ++ text) vs ∙ ap (λ t. t ++ text) (append-nil (states_line n)));
-  right = tt;
-})
-
 module _ (places n : ℕ) (whole : List ℕ) (total : Option PlanRefusal) where
   pub line_taken : (i j : ℕ) (a b : Progress) (text rest : List ℕ) → 0 < places → 1 ≤ n → SoFar places n whole total a.due a.plan (i + 1) text → TakesLine places a b text rest → j ≡ i + 1 → SoFar places n whole total b.due b.plan (j + 1) rest
   line_taken i j a b text rest some any h t next =

@@ -2,19 +2,14 @@
 use Rattle.std.proofs.Common.{◌≡◌, ℕ, zero, suc, ◌+◌, ◌-◌, ◌<◌, ◌≤◌, Bool, true, false, cond, List, [], ◌∷◌, ◌++◌, map, length, Some, None, Ok, Err, Option, Result, sym, refl, ap, ◌∙◌, add-zero, arith}
 use Rattle.std.specs.List.{slice_get, range_with_len}
 use Rattle.std.specs.Option.{option_map}
-use Rattle.std.proofs.lemmas.Bool.{leb-false}
+use Rattle.std.proofs.lemmas.Option.{slice_get-map}
 use Rattle.lines.specs.Placed.{fits, end_of, placed}
 use Rattle.plantext.specs.declared.refusal.LineRefusal.{LineRefusal}
-use Rattle.plantext.specs.declared.refusal.LineRefusal.TheVariants.{WrongLength, NoSpace}
+use Rattle.plantext.specs.declared.refusal.LineRefusal.TheVariants.{NoSpace}
 use Rattle.plantext.specs.declared.stage.Stage.{Stage}
 use Rattle.plantext.specs.declared.stage.Stage.TheVariants.{Row, End}
 use Rattle.plantext.specs.Lines.{Plan, stages, stage_line, plan_lines}
 use Rattle.plantext.specs.Spaces.{level, line_answer, line_space, AnswersLine}
-
-nth_map : {A B : Type 0} (f : A → B) (xs : List A) (i : ℕ) → slice_get (map f xs) i ≡ option_map f (slice_get xs i)
-nth_map f [] i = refl
-nth_map f (x ∷ xs) zero = refl
-nth_map f (x ∷ xs) (suc i) = nth_map f xs i
 
 -- the stages behind the claims
 abbrev pub row_stages : ℕ → List Stage
@@ -43,12 +38,9 @@ stage_past n j l = let is : j ≡ suc (suc (suc (j - 3))) = omega arith in ap (s
 
 -- line j of a plan
 pub line_at : (p : Plan) (j : ℕ) → slice_get (plan_lines p) j ≡ option_map (stage_line p) (slice_get (stages (length p.values)) j)
-line_at p j = nth_map (stage_line p) (stages (length p.values)) j
+line_at p j = slice_get-map (stage_line p) (stages (length p.values)) j
 
 module _ (p : Plan) (j : ℕ) (space : List ℕ) where
-  pub not_level : level (length p.values) (length p.policy) ≡ false → AnswersLine p j space space (Err WrongLength)
-  not_level h = record { answer = sym (ap (λ t. line_answer t (slice_get (plan_lines p) j) space) h); after = sym (ap (λ t. line_space t (slice_get (plan_lines p) j) space) h) }
-
   module _ (h : level (length p.values) (length p.policy) ≡ true) where
     -- a line of the plan, or none, as the tables are level
     told : (o : Option (List ℕ)) → slice_get (plan_lines p) j ≡ o → {space' : List ℕ} {r : Result (Option ℕ) LineRefusal} → r ≡ line_answer true o space → space' ≡ line_space true o space → AnswersLine p j space space' r
@@ -73,11 +65,3 @@ module _ (p : Plan) (j : ℕ) (space : List ℕ) where
         full : (t : Bool) → cond t (Some (0 + length l)) None ≡ None → Err NoSpace ≡ cond t (Ok (Some (length l))) (Err NoSpace)
         full true q = let z : ◌≡◌ {A = ℕ} 0 1 = cc in absurd (omega arith)
         full false q = refl
-
--- a text that finds no room is longer than the space
-pub no_room : (text space : List ℕ) → None ≡ end_of text 0 space → length space < length text
-no_room text space e = tested (fits text 0 space) refl e
-  where
-    tested : (t : Bool) → fits text 0 space ≡ t → None ≡ cond t (Some (0 + length text)) None → length space < length text
-    tested true q e = let z : ◌≡◌ {A = ℕ} 0 1 = cc in absurd (omega arith)
-    tested false q e = omega (arith, leb-false (0 + length text) (length space) q)

@@ -1,10 +1,10 @@
 -- The values of a plan's lines: amounts read place by place, and back to their texts.
-use Rattle.std.proofs.Common.{◌≡◌, ℕ, zero, suc, ◌+◌, ◌^◌, ◌<◌, ◌≤◌, Bool, true, false, cond, List, [], ◌∷◌, ◌++◌, map, length, is_some, take, set, ℤ, Some, None, decimal, Option, sym, refl, ap, ◌∙◌, subst, arith, lit<, rules}
+use Rattle.std.proofs.Common.{◌≡◌, ℕ, zero, suc, ◌+◌, ◌^◌, ◌<◌, ◌≤◌, Bool, true, false, cond, List, [], ◌∷◌, ◌++◌, map, length, take, set, ℤ, Some, None, decimal, Option, sym, refl, ap, ◌∙◌, subst, arith, lit<, rules}
 use lib.Signed.{mag}
 use Rattle.std.specs.Option.{option_map}
 use Rattle.std.specs.Fmt.{signed_decimal}
 use Rattle.std.specs.List.{AllByRecursion}
-use Rattle.std.proofs.lemmas.List.{append_assoc, append-nil, length-map, take_more_set}
+use Rattle.std.proofs.lemmas.List.{append_assoc, length-map, take_more_set}
 use Rattle.std.proofs.lemmas.Bool.{eqb-true, eq-eqb, cond-true}
 use Rattle.interface.specs.Limits.{most_states}
 use Rattle.interface.specs.Rows.{Row}
@@ -36,12 +36,6 @@ one_more p z (Some u) = ap Some (sym (append_assoc p (z ∷ []) u))
 
 pub place_more : (p : Row) (z : ℤ) (k m : ℕ) (fs gs : List (List ℕ)) (f : List ℕ) → k ≡ suc m → fs ≡ f ∷ gs → signed_numeral f ≡ Some z → reads_on (p ++ (z ∷ [])) m gs ≡ reads_on p k fs
 place_more p z k m fs gs f h e n = sym (ap (λ j. reads_on p j fs) h ∙ ap (reads_on p (suc m)) e ∙ ap (λ o. option_map (λ u. p ++ u) (onto o (amount_of m gs))) n ∙ one_more p z (amount_of m gs))
-
-pub places_over : (p : Row) (k : ℕ) (fs gs : List (List ℕ)) (f : List ℕ) → k ≡ 0 → fs ≡ f ∷ gs → reads_on p k fs ≡ None
-places_over p k fs gs f h e = ap (λ j. reads_on p j fs) h ∙ ap (reads_on p 0) e
-
-pub places_all : (p : Row) (k : ℕ) (fs : List (List ℕ)) → k ≡ 0 → fs ≡ [] → reads_on p k fs ≡ Some p
-places_all p k fs h e = ap (λ j. reads_on p j fs) h ∙ ap (reads_on p 0) e ∙ ap Some (append-nil p)
 
 -- a place is written behind those before it
 pub taken_more : (u v : Row) (i : ℕ) (z : ℤ) → v ≡ set u i z → i < length u → take (i + 1) v ≡ take i u ++ (z ∷ [])
@@ -143,7 +137,3 @@ entry_forth places s x u low few h =
 pub entry_fields : (places s x : ℕ) (u : Row) → s ≤ most_states → x ≤ most_portfolio → Held places u → fields (joined (decimal s ∷ (decimal x ∷ map signed_decimal u))) ≡ decimal s ∷ (decimal x ∷ map signed_decimal u)
 entry_fields places s x u low few h =
     fields_joined (decimal s ∷ (decimal x ∷ map signed_decimal u)) (omega arith) (decimal_free comma (lit< tt) s (omega arith), (decimal_free comma (lit< tt) x (omega arith), free_places u h.each))
-
-pub not_some : {A : Type 0} (o : Option A) → is_some o ≡ false → o ≡ None
-not_some None h = refl
-not_some (Some a) h = cc

@@ -26,7 +26,8 @@ fn row_after(states: usize, state: usize) -> Stage
     }
 }
 
-// How far a plan has been read: the line that is due, the number of states and the claims.
+// How far a plan has been read: the line that is due, the number of states and the claims. The tables stay parameters:
+// lent into the reader, each of its methods would owe besides that it still holds the caller's.
 #[derive(Drop)]
 pub(crate) struct Reader<A> {
     due: Option<Stage>,

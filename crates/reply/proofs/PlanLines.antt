@@ -1,9 +1,11 @@
 -- The lines of a plan, one behind the other.
-use Rattle.std.proofs.Common.{◌≡◌, ℕ, zero, suc, ◌+◌, ◌-◌, ◌<◌, ◌≤◌, Bool, true, false, cond, List, [], ◌∷◌, ◌++◌, map, length, take, is_ok, IfOk, Some, None, Ok, Err, Option, Result, sym, refl, ap, ◌∙◌, add-one, arith}
+use Rattle.std.proofs.Common.{◌≡◌, ℕ, zero, suc, ◌+◌, ◌-◌, ◌<◌, ◌≤◌, Bool, true, false, cond, List, [], ◌∷◌, ◌++◌, map, length, take, Some, None, Ok, Err, Option, Result, sym, refl, ap, ◌∙◌, add-one, arith}
 use native.Mathlib.Nat.{sub-zero}
 use Rattle.std.specs.List.{slice_get, range_with_len}
 use Rattle.std.proofs.lemmas.List.{append_assoc, append-nil, length-append, length-map}
-use Rattle.std.proofs.lemmas.Bool.{leb-true, le-leb, eq-eqb}
+use Rattle.std.proofs.lemmas.List.FromFn.{length-map-range_with_len}
+use Rattle.std.proofs.lemmas.Option.{slice_get-get_or}
+use Rattle.std.proofs.lemmas.Bool.{le-leb, eq-eqb}
 use Rattle.interface.specs.Limits.{most_states}
 use Rattle.lines.specs.Placed.{fits, end_of, placed}
 use Rattle.lines.proofs.PlaceLaws.{placed_between}
@@ -12,24 +14,13 @@ use Rattle.plantext.specs.declared.refusal.LineRefusal.TheVariants.{WrongLength,
 use Rattle.plantext.specs.declared.stage.Stage.TheVariants.{Row, End}
 use Rattle.plantext.specs.Lines.{Plan, stages, plan_lines, concat, plan_text, stage_line}
 use Rattle.plantext.specs.Spaces.{level, line_room, line_answer, line_space, AnswersLine, Tight}
-use Rattle.reply.specs.Plans.{Written, Pushed}
 
 -- a plan has a line for each state and four more
-counting_long : (s n : ℕ) → length (range_with_len s n) ≡ n
-counting_long s zero = refl
-counting_long s (suc n) = ap suc (counting_long (s + 1) n)
-
 pub lines_long : (p : Plan) → length (plan_lines p) ≡ length p.values + 4
 lines_long p =
     let n = length p.values in
     let rows = map Row (range_with_len 0 n) in
-    omega (arith, length-map (stages n) (stage_line p), length-append rows (End ∷ []), length-map (range_with_len 0 n) Row, counting_long 0 n)
-
--- what stands at a number below the length
-nth_there : {A : Type 0} (xs : List A) (j : ℕ) → j < length xs → slice_get xs j ≡ None → ⊥
-nth_there [] j l e = omega arith
-nth_there (x ∷ xs) zero l e = let z : ◌≡◌ {A = ℕ} 0 1 = cc in omega arith
-nth_there (x ∷ xs) (suc j) l e = nth_there xs j (omega arith) e
+    omega (arith, length-map (stages n) (stage_line p), length-append rows (End ∷ []), length-map-range_with_len Row 0 n)
 
 concat_more : (ls : List (List ℕ)) (j : ℕ) (l : List ℕ) → slice_get ls j ≡ Some l → concat (take (suc j) ls) ≡ concat (take j ls) ++ l
 concat_more [] j l e = let z : ◌≡◌ {A = ℕ} 0 1 = cc in absurd (omega arith)
@@ -41,6 +32,18 @@ concat_all [] zero h = refl
 concat_all [] (suc j) h = refl
 concat_all (k ∷ ls) zero h = absurd (omega arith)
 concat_all (k ∷ ls) (suc j) h = ap (λ t. k ++ t) (concat_all ls j (omega arith))
+
+-- Line j of a plan stands at the front of a space.
+pub record Written (p : Plan) (j : ℕ) (space : List ℕ) (long : ℕ) : Type 0 where
+  pub line : List ℕ
+  pub is : slice_get (plan_lines p) j ≡ Some line
+  pub front : take long space ≡ line
+
+-- Line j of a plan was put behind what stood before.
+pub record Pushed (p : Plan) (j : ℕ) (before after : List ℕ) : Type 0 where
+  pub line : List ℕ
+  pub is : slice_get (plan_lines p) j ≡ Some line
+  pub behind : after ≡ before ++ line
 
 -- a line stands at the front of the space, up to its end; all behind is as it was
 record Put (l : List ℕ) (space space' : List ℕ) (end : ℕ) : Type 0 where
@@ -61,14 +64,10 @@ module _ (p : Plan) (j : ℕ) (space space' : List ℕ) where
       tested true r e = let is : n ≡ length l = cc in record { ends = ap (λ t. cond t (Some (0 + length l)) None) r ∙ ap Some (omega (arith, is)); after = q }
       tested false r e = let z : ◌≡◌ {A = ℕ} 0 1 = cc in absurd (omega arith)
 
-  pub written : (n : ℕ) → length space' ≡ length space → AnswersLine p j space space' (Ok (Some n)) → Written p j space' n
-  written n same h =
+  pub written : (n : ℕ) → AnswersLine p j space space' (Ok (Some n)) → Written p j space' n
+  written n h =
       let l = put_of n (level (length p.values) (length p.policy)) (slice_get (plan_lines p) j) h.answer h.after in
-      record { line = l.0; is = l.1.0; within = room l.0 (fits l.0 0 space) refl l.1.1.ends; front = ap (λ k. take k space') (sym (sub-zero n)) ∙ put_front l.1.1 }
-    where
-      room : (l : List ℕ) (t : Bool) → fits l 0 space ≡ t → cond t (Some (0 + length l)) None ≡ Some n → n ≤ length space'
-      room l true q e = let is : 0 + length l ≡ n = cc in omega (arith, leb-true (0 + length l) (length space) q, is, same)
-      room l false q e = let z : ◌≡◌ {A = ℕ} 0 1 = cc in absurd (omega arith)
+      record { line = l.0; is = l.1.0; front = ap (λ k. take k space') (sym (sub-zero n)) ∙ put_front l.1.1 }
 
   module _ (some : 1 ≤ length p.values) (few : length p.values ≤ most_states) (even : length p.policy ≡ length p.values) (inside : j < length p.values + 4) (wide : length space ≡ line_room) where
     levelled : level (length p.values) (length p.policy) ≡ true
@@ -83,7 +82,7 @@ module _ (p : Plan) (j : ℕ) (space space' : List ℕ) where
     not_absent h = absent (slice_get (plan_lines p) j) refl (h.answer ∙ ap (λ t. line_answer t (slice_get (plan_lines p) j) space) levelled)
       where
         absent : (o : Option (List ℕ)) → slice_get (plan_lines p) j ≡ o → Ok None ≡ line_answer true o space → ⊥
-        absent None q e = nth_there (plan_lines p) j (omega (arith, lines_long p)) q
+        absent None q e = let found = slice_get-get_or (plan_lines p) j [] (omega (arith, lines_long p)) in cc
         absent (Some l) q e = tested (fits l 0 space) e
           where
             tested : (t : Bool) → Ok None ≡ cond t (Ok (Some (length l))) (Err NoSpace) → ⊥
@@ -108,10 +107,9 @@ module _ (p : Plan) (j : ℕ) (space space' : List ℕ) where
     answered (Ok None) h t = absurd (not_absent h)
     answered (Err x) h t = absurd (not_refused x h t)
 
--- a written line is put behind the others, where there is memory for it
-pub pushed : {X Y : Type 0} (r : Result X Y) (p : Plan) (j n : ℕ) (space before after : List ℕ) → Written p j space n → after ≡ cond (is_ok r) (before ++ take (n - 0) space) before → IfOk r (λ _. Pushed p j before after)
-pushed (Ok x) p j n space before after w e = record { line = w.line; is = w.is; behind = e ∙ ap (λ t. before ++ t) (ap (λ k. take k space) (sub-zero n) ∙ w.front) }
-pushed (Err y) p j n space before after w e = tt
+-- a written line is put behind the others
+pub pushed : (p : Plan) (j n : ℕ) (space before after : List ℕ) → Written p j space n → after ≡ before ++ take (n - 0) space → Pushed p j before after
+pushed p j n space before after w e = record { line = w.line; is = w.is; behind = e ∙ ap (λ t. before ++ t) (ap (λ k. take k space) (sub-zero n) ∙ w.front) }
 
 -- and so are all lines in turn
 pub one_more : (p : Plan) (j : ℕ) (start before after : List ℕ) → before ≡ start ++ concat (take j (plan_lines p)) → Pushed p j before after → after ≡ start ++ concat (take (j + 1) (plan_lines p))

@@ -28,10 +28,6 @@ no_plan row m t s b b' (Err (planner.BeyondReach state)) (Err z) e is few even h
     let same : z ≡ e = cc in
     subst (NoPlan m t s) (sym (told (planner.BeyondReach state) z j) ∙ same) (refl, (state, record { whole = halted.whole; fewer = halted.fewer; values = map row b'.values; swept = halted.swept; stuck = halted.stuck }))
 
--- tables and claims that are the same are the same plan
-pub same_plan : {A : Type 0} (row : A → Row) {vs vs' : List A} {xs xs' : List ℕ} {c c' : Claims A} → vs ≡ vs' → xs ≡ xs' → c ≡ c' → plan_of row vs xs c ≡ plan_of row vs' xs' c'
-same_plan row a b d = cc
-
 -- the text of a plan that was made
 pub plan_for : {A : Type 0} (Q : PlannerRefusal → Refusal → Type 0) (row : A → Row) (m : Model) (t : Scale) (n : ℕ) (b b' : Tables A) (planned : Result (Claims A) PlannerRefusal) (r : Result (Claims A) Refusal) (c : Claims A) (text : List ℕ) → r ≡ Ok c → Answer row m t n b b' planned → MatchResult planned (λ x. r ≡ Ok x) (λ y. IsErrAnd r (Q y)) → text ≡ plan_text (plan_of row b'.values b'.policy c) → PlanFor m t n text
 plan_for Q row m t n b b' (Ok x) r c text is h j written =

@@ -1,13 +1,12 @@
 -- A plan as text: what the planner finds after so many sweeps, written line by line.
-use Rattle.std.specs.Prelude.{◌≡◌, ℕ, ◌<◌, ◌≤◌, List, ◌++◌, map, length, take, Some}
-use Rattle.std.specs.List.{slice_get}
+use Rattle.std.specs.Prelude.{◌≡◌, ℕ, ◌<◌, List, map}
 use Rattle.interface.specs.Plants.{Model}
 use Rattle.interface.specs.Rows.{Row}
 use Rattle.interface.specs.Tariffs.{Scale}
 use Rattle.interface.specs.declared.claims.Claims.{Claims}
 use Rattle.certificate.specs.Recipes.{Lowest, Highest}
 use Rattle.planner.specs.Sweeps.{Swept, Stuck, Chooses}
-use Rattle.plantext.specs.Lines.{Plan, plan_lines, plan_text}
+use Rattle.plantext.specs.Lines.{Plan, plan_text}
 
 -- what tables and claims mean
 abbrev pub plan_of : {A : Type 0} → (A → Row) → List A → List ℕ → Claims A → Plan
@@ -30,16 +29,3 @@ pub record HaltsAt (m : Model) (t : Scale) (sweeps : ℕ) (state : ℕ) : Type 0
   pub values : List Row
   pub swept : Swept m t whole values
   pub stuck : Stuck m t values state
-
--- Line j of a plan stands at the front of a space.
-pub record Written (p : Plan) (j : ℕ) (space : List ℕ) (long : ℕ) : Type 0 where
-  pub line : List ℕ
-  pub is : slice_get (plan_lines p) j ≡ Some line
-  pub within : long ≤ length space
-  pub front : take long space ≡ line
-
--- Line j of a plan was put behind what stood before.
-pub record Pushed (p : Plan) (j : ℕ) (before after : List ℕ) : Type 0 where
-  pub line : List ℕ
-  pub is : slice_get (plan_lines p) j ≡ Some line
-  pub behind : after ≡ before ++ line

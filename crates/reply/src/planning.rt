@@ -4,7 +4,7 @@ ghost use Rattle.planner.specs.Sweeps.{most_sweeps};
 ghost use Rattle.reply.specs.Replies.{Answered, PlansAs};
 
 use crate::answer::{Refusal, Unanswered};
-use crate::writing::PlanView;
+use crate::writing::push_plan;
 use interface::plant::Plant;
 use interface::tariff::Tariff;
 use planner::plan::plan;
@@ -30,7 +30,7 @@ fn text_of_plan<P: Plant, T: Tariff>(
     let planned = plan(plant, tariff, sweeps.count, values, working, policy);
     let claims = planned.map_err(|_| Refusal::BeyondReach(sweeps.line))?;
     let mut text = Vec::new(heap);
-    PlanView::new(values, policy, claims).push_lines(tariff, &mut text)?;
+    push_plan(tariff, values, policy, claims, &mut text)?;
     Ok(text)
 }
 

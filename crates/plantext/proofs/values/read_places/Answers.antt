@@ -1,9 +1,8 @@
-use Rattle.std.proofs.Common.{◌≡◌, suc, ◌+◌, ◌-◌, ◌<◌, ◌≤◌, length, take, set, ℤ, Some, None, sym, ap, ◌∙◌, arith, w64, SFits, rules}
+use Rattle.std.proofs.Common.{◌≡◌, suc, ◌+◌, ◌-◌, ◌<◌, length, take, set, ℤ, sym, ap, ◌∙◌, arith, w64, SFits, rules}
 use Rattle.std.specs.Option.{option_map}
-use Rattle.std.proofs.lemmas.List.{take_all}
 use Rattle.std.proofs.lemmas.Int.{to_z-of_z}
 use Rattle.lines.specs.Fields.{further}
-use Rattle.plantext.proofs.ValueLaws.{reads_on, no_field, no_place, place_more, places_all, taken_more, not_some}
+use Rattle.plantext.proofs.ValueLaws.{reads_on, no_field, no_place, place_more, taken_more}
 use Rattle.plantext.proofs.values.read_places.Goals as goal
 
 pub returns-in_err-next : goal.returns-in_err-next
@@ -36,15 +35,3 @@ loop-i-preserved g c =
     ap (λ p. reads_on p (places - (i + 1)) (further c.next.new.self.rest)) (taken_more (row c.loop-i.amount) (row c.in_ok-amount.amount) i z set_is inside)
     ∙ place_more (take i (row c.loop-i.amount)) z (places - i) (places - (i + 1)) _ _ _ left c.in_ok-next.ensures.steps (sym c.in_ok-place.ensures.value)
     ∙ c.loop-i.invariant
-
-pub returns : goal.returns
-returns g c =
-    let row = g.T.Tariff.row in
-    let places = (g.T.Tariff.scale c.args.tariff.now).places in
-    let i = c.loop-i.i in
-    let long = g.met.T.Tariff.fits c.args.tariff.now c.loop-i.amount in
-    let all : length (row c.loop-i.amount) ≤ i = omega (arith, c.place_count-i-end.ensures) in
-    let over : places - i ≡ 0 = omega (arith, c.place_count-i-end.ensures) in
-    let none : c.next-2.result ≡ None = not_some c.next-2.result (sym c.is_some.ensures ∙ c.if-is_some.false) in
-    let last = rw none at c.next-2.ensures.steps in
-    sym (places_all (take i (row c.loop-i.amount)) (places - i) _ over last.0 ∙ ap Some (take_all i (row c.loop-i.amount) all)) ∙ c.loop-i.invariant

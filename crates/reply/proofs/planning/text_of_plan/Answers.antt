@@ -3,7 +3,7 @@ use Rattle.std.proofs.lemmas.Result.{err_from_is_err_and}
 use Rattle.planner.specs.Answers.{Level}
 use Rattle.plantext.specs.Lines.{plan_text}
 use Rattle.reply.specs.Plans.{plan_of}
-use Rattle.reply.proofs.Planned.{no_plan, same_plan, plan_for}
+use Rattle.reply.proofs.Planned.{no_plan, plan_for}
 use Rattle.reply.proofs.planning.text_of_plan.Goals as goal
 
 pub returns-in_err-claims : goal.returns-in_err-claims
@@ -16,7 +16,6 @@ returns-in_err-claims g c =
 pub returns : goal.returns
 returns g c =
     let row = g.T.Tariff.row in
-    let view = c.new.result in
-    let same = same_plan row c.new.ensures.values c.new.ensures.policy c.new.ensures.claims in
-    let text = c.in_ok-push_lines.ensures ∙ ap (λ s. s ++ plan_text (plan_of row view.values.now view.policy.now view.claims)) c.new-text.ensures.items ∙ ap plan_text same in
+    let p = plan_of row c.plan-planned.new.values c.plan-planned.new.policy c.in_ok-claims.claims in
+    let text = c.in_ok-push_plan.ensures ∙ ap (λ s. s ++ plan_text p) c.new-text.ensures.items in
     plan_for _ row (g.P.Plant.model c.args.plant.now) (g.T.Tariff.scale c.args.tariff.now) c.args.sweeps.count _ _ c.plan-planned.result c.map_err.result c.in_ok-claims.claims _ c.in_ok-claims.was c.plan-planned.ensures.answer c.map_err.ensures.cases text

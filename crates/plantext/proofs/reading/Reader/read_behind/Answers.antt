@@ -1,13 +1,9 @@
 use Rattle.std.proofs.Common.{length, sym, ap, ◌∙◌, arith}
-use Rattle.std.proofs.lemmas.List.{length-map}
 use Rattle.std.proofs.lemmas.Result.{err_from_is_err_and}
 use Rattle.lines.proofs.LineLaws.{rest_shorter}
 use Rattle.plantext.specs.Progress.{progress}
-use Rattle.plantext.proofs.Fronts.{started, line_taken, line_refused, behind_refused, all_read}
+use Rattle.plantext.proofs.Fronts.{line_taken, line_refused, behind_refused, all_read}
 use Rattle.plantext.proofs.reading.Reader.read_behind.Goals as goal
-
-pub loop-self-init : goal.loop-self-init
-loop-self-init g c = started _ (length c.args.values.now) _ _ _ c.args.self.now.due c.requires.due (length-map c.args.values.now g.T.Tariff.row) c.requires.level
 
 pub loop-self-smaller : goal.loop-self-smaller
 loop-self-smaller g c =
