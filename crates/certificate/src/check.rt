@@ -22,7 +22,7 @@ pub const MOST_VALUE: u64 = 1_000_000_000_000;
 // The farthest that low and high may reach.
 pub const MOST_CLAIM: u64 = 100_000_000_000_000_000;
 
-// Refused by the first value beyond reach.
+// Refused by the first value beyond reach. A `for` over the lent table with its index is the form of the house for this test.
 pub(crate) fn values_near<T: Tariff>(tariff: &T, values: &[T::Amount]) -> Result<(), Refusal>
     ensures { result_err result ≡ first_fault (value_fault (T.scale tariff.now) (map T.Tariff.row values.now)) (length values.now) }
 {

@@ -7,7 +7,7 @@ pub struct Part {
     // The age at which the part has to be renewed.
     pub life: usize,
     // The ten-thousandths of failing in a window that the part starts at age 0, 1 and so on, up to its life.
-    // What lies beyond is ignored.
+    // What lies beyond is ignored; the life stands beside the table for the reason at ChainNumbers.
     pub hazards: [u32; MOST_LIFE],
     // In cents: paid beside the alarm when the part is renewed because it failed.
     pub surplus: u32,

@@ -8,7 +8,7 @@ use workorder::MAX_PARTS;
 
 #[derive(Clone, Copy)]
 pub struct ChainState {
-    // The age of part i, from 1, is at index i - 1.
+    // The age of part i, from 1, is at index i - 1; what lies beyond the chain's parts is ignored, as in its numbers.
     pub ages: [usize; MAX_PARTS],
     // The number of the failed part, or 0: a state's number is a number for the ages times as many as the parts and 1, and this.
     pub failed: usize,

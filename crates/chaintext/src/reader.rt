@@ -30,7 +30,8 @@ pub struct Head {
     pub alarm: u32,
 }
 
-// The part opened last has the number `opened`; its record is at `opened` - 1.
+// The part opened last has the number `opened`; its record is at `opened` - 1, and is lent to be filled. A fixed table of
+// records is the form of the house for a reader.
 #[derive(Clone, Copy)]
 pub struct ChainReader {
     pub stage: Stage,

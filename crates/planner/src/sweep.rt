@@ -14,13 +14,11 @@ use lookahead::best::Choice;
 use lookahead::table::ValueTable;
 use lookahead::valued::ValuedPlant;
 
-// Zero rows everywhere. `fill` asks for an amount whose clone cannot fail, which an amount that is just Copy does not promise.
+// Zero rows everywhere.
 pub(crate) fn clear<T: Tariff>(tariff: &T, table: &mut [T::Amount])
     ensures { map T.Tariff.row table.new ≡ blank (T.scale tariff.now) (length table.old) }
 {
-    for cell in table.iter_mut() {
-        *cell = tariff.zero();
-    }
+    table.fill_with(|| tariff.zero());
 }
 
 // The least look-ahead of a state, with its portfolio.

@@ -96,6 +96,7 @@ pub fn plan_line<T: Tariff>(
     ensures tight { Tight space.old result }
 {
     let plan = PlanView::new(values, policy, claims)?;
+    // No line past the last is an answer here, Ok(None), which `?` does not give.
     let Some(stage) = Stage::at(values.len(), j) else {
         return Ok(None);
     };

@@ -24,7 +24,7 @@ pub enum Key {
     End,
     Tariff,
     Sweeps,
-    // None of these.
+    // None of these: it is matched with the stage as the others are, so that any text in front of an equals sign is some key.
     Other,
 }
 

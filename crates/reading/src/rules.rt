@@ -58,7 +58,8 @@ impl ReadRefusal {
     }
 }
 
-// The rule that is broken where no line could be read: a line's fault, or else that the text ends early.
+// The rule that is broken where no line could be read: a line's fault, or else that the text ends early. No From: a number
+// is a rule only as the fault of a line.
 pub fn fault_rule(fault: u8) -> Rule
     ensures { result ≡ fault_rule fault }
 {

@@ -7,7 +7,7 @@ ghost use Rattle.request.specs.Writing.{ReadsEnd};
 use lines::reading::{Line, Lines, Read};
 use reading::rules::{ReadRefusal, Rule, fault_rule};
 
-// The rule that a line breaks which should not be there.
+// The rule that a line breaks which should not be there. No From: both types are of crates below.
 fn goes_on(line: Line) -> Rule
     ensures { result ≡ goes_on (said line.entry) }
 {
