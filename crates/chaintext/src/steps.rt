@@ -167,6 +167,7 @@ impl ChainReader {
     fn rising(&self, arc: Arc) -> bool
         ensures { result ≡ rising self.now arc }
     {
+        // A test answers false here, which `?` does not give.
         let Some(arcs) = self.arcs.get(..self.arc_count) else {
             return false;
         };
