@@ -1,5 +1,5 @@
 -- The laws of numbers in base ten.
-use Rattle.std.proofs.Common.{◌≡◌, ℕ, zero, suc, ◌+◌, ◌-◌, ◌*◌, ◌^◌, ◌<◌, ◌≤◌, Bool, true, false, cond, not, ◌&&◌, eqb, leb, List, [], ◌∷◌, length, get_or, take, drop, ℤ, pos, negsuc, Some, None, decimal, Option, sym, refl, ap, ◌∙◌, subst, ⊎_elim, arith, lit<, rules}
+use Rattle.std.proofs.Common.{◌≡◌, ℕ, zero, suc, ◌+◌, ◌-◌, ◌*◌, ◌^◌, ◌<◌, ◌≤◌, Bool, true, false, cond, ◌&&◌, eqb, leb, List, [], ◌∷◌, length, get_or, take, drop, ℤ, pos, negsuc, Some, None, decimal, Option, sym, refl, ap, ◌∙◌, subst, ⊎_elim, arith, lit<, rules}
 use lib.Signed.{mag}
 use Rattle.std.specs.Option.{option_map}
 use Rattle.std.specs.Fmt.{signed_decimal}
@@ -8,7 +8,7 @@ use Rattle.std.specs.Char.{is_ascii_digit}
 use Rattle.std.proofs.lemmas.Fmt.{decimal_digit, decimal_nonempty, first_decimal, digits_decimal, digits_value-decimal, decimal-digits_value}
 use Rattle.std.proofs.lemmas.List.{take_rest}
 use Rattle.std.proofs.lemmas.Str.Parse.{IsNumeralModel, numerals_by_fold, not_in_digits}
-use Rattle.std.proofs.lemmas.Bool.{leb-true, leb-false, le-leb, lt-leb, lt-ltb, ltb-true, eq-eqb, ne_eqb, eqb-true, and_from, and_parts, and_left, and_right, cond-true, cond-false, not-true, not_from_false, cases_lt}
+use Rattle.std.proofs.lemmas.Bool.{leb-true, leb-false, le-leb, lt-leb, lt-ltb, ltb-true, eq-eqb, ne_eqb, eqb-true, and_from, and_parts, and_right, cond-true, cond-false, not-true, not_from_false, cases_lt}
 use Rattle.lines.specs.Numeral.{zero_digit, minus_sign, value_after, needless_zero, well_formed, numeral, pushed, negated, signed_numeral, ReadsNumber, ReadsSigned}
 
 pub own : IsNumeralModel (λ ds. all_ascii_digits ds ≡ true) (value_after 0)
@@ -116,32 +116,16 @@ numeral_read s most some zeros =
     let formed : well_formed s ≡ all_ascii_digits s = ap (λ t. t && all_ascii_digits s) (and_from _ _ (lt-ltb 0 (length s) some) (not_from_false _ zeros)) in
     ap (λ t. cond (t && leb (value_after 0 s) most) (Some (value_after 0 s)) None) formed ∙ read_on_here most 0 s (omega arith)
 
-pub numeral_empty : (s : List ℕ) (most : ℕ) → length s ≡ 0 → numeral s most ≡ None
-numeral_empty [] most e = refl
-numeral_empty (c ∷ cs) most e = absurd (omega arith)
-
-pub numeral_zeros : (s : List ℕ) (most : ℕ) → needless_zero s ≡ true → numeral s most ≡ None
-numeral_zeros s most zeros = cond-false _ _ _ (and_left _ _ (and_left _ _ (and_right _ _ (ap not zeros))))
-
 pub number_at : (s : List ℕ) (most : ℕ) (r : Option ℕ) → most < 2 ^ 64 → r ≡ numeral s most → ReadsNumber s most r
 number_at s most r fits e = subst (ReadsNumber s most) (sym e) (numeral_law s most fits)
 
--- a digit that is refused ends the reading, and one that is taken goes on
+-- a digit that is refused ends the reading
 pub read_stop : (most v c : ℕ) (cs : List ℕ) → None ≡ pushed v c most → read_on most v (c ∷ cs) ≡ None
 read_stop most v c cs e = stop (is_ascii_digit c && leb (10 * v + (c - zero_digit)) most) e
   where
     stop : (t : Bool) → None ≡ cond t (Some (10 * v + (c - zero_digit))) None → cond t (read_on most (10 * v + (c - zero_digit)) cs) None ≡ None
     stop true e = let q : ◌≡◌ {A = ℕ} 0 1 = cc in absurd (omega arith)
     stop false e = refl
-
-pub read_next : (most v c w : ℕ) (cs : List ℕ) → Some w ≡ pushed v c most → read_on most v (c ∷ cs) ≡ read_on most w cs
-read_next most v c w cs e =
-    let q = some_parts (is_ascii_digit c && leb (10 * v + (c - zero_digit)) most) _ w (sym e) in
-    cond-true _ _ _ q.0 ∙ ap (λ n. read_on most n cs) q.1
-
-pub negated_some : (m : ℕ) → 0 < m → negated (Some m) ≡ Some (negsuc (m - 1))
-negated_some zero h = absurd (omega arith)
-negated_some (suc n) h = ap (λ k. Some (negsuc k)) (omega arith)
 
 pub signed_at : (s : List ℕ) (r : Option ℤ) → r ≡ signed_numeral s → ReadsSigned s r
 signed_at s r e = subst (ReadsSigned s) (sym e) (signed_law s)
@@ -153,9 +137,3 @@ signed_minus s o e h = ap negated (h ∙ ap (λ t. numeral t (2 ^ 63)) (take_res
 -- a number's text is read back
 pub numeral_decimal : (n most : ℕ) → most < 2 ^ 64 → n ≤ most → numeral (decimal n) most ≡ Some n
 numeral_decimal n most fits low = (numeral_law (decimal n) most fits n).1 (refl, low)
-
-pub decimal_numeral : (s : List ℕ) (n most : ℕ) → most < 2 ^ 64 → numeral s most ≡ Some n → s ≡ decimal n
-decimal_numeral s n most fits e = ((numeral_law s most fits n).0 e).0
-
-pub numeral_of_signed : (s : List ℕ) (z : ℤ) → signed_numeral s ≡ Some z → s ≡ signed_decimal z
-numeral_of_signed s z e = ((signed_law s z).0 e).0

@@ -1,18 +1,14 @@
-use Rattle.std.proofs.Common.{◌≡◌, ℕ, ◌+◌, ◌<◌, List, length, get_or, drop, Some, None, sym, ◌∙◌, arith}
+use Rattle.std.proofs.Common.{◌≡◌, ℕ, ◌+◌, ◌<◌, List, length, get_or, drop, rules, Some, None, sym, ◌∙◌, arith}
 use Rattle.std.proofs.lemmas.List.{at_drop_more, at_drop_all}
-use Rattle.std.proofs.lemmas.Bool.{eqb-true, eqb-false}
+use Rattle.std.proofs.lemmas.Bool.{eqb-false}
 use Rattle.lines.specs.Numeral.{numeral}
-use Rattle.lines.proofs.NumeralLaws.{read_on, numeral_read, numeral_empty, numeral_zeros, number_at, read_stop, read_next}
+use Rattle.lines.proofs.NumeralLaws.{read_on, numeral_read, number_at, read_stop}
 use Rattle.lines.proofs.numbers.number.Goals as goal
-use Rattle.lines.proofs.numbers.number.Goals.{then-is_empty-via-then-is_empty, then-is_empty-via-else-is_empty+then-has_needless_zero}
 
-pub returns-then-is_empty : goal.returns-then-is_empty
-returns-then-is_empty c =
-    let same : None ≡ numeral c.args.text.now c.args.most = elim c.then-is_empty.branch [
-      | then-is_empty-via-then-is_empty w ↦ sym (numeral_empty c.args.text.now c.args.most (eqb-true _ 0 (sym w.if-is_empty.ensures)))
-      | then-is_empty-via-else-is_empty+then-has_needless_zero w ↦ sym (numeral_zeros c.args.text.now c.args.most (sym w.if-has_needless_zero.ensures))
-    ] in
-    record { value = same; law = number_at _ _ _ c.ranges.most.fits same }
+pub returns-then-is_empty-clause-law : goal.returns-then-is_empty-clause-law
+returns-then-is_empty-clause-law c =
+    let same : None ≡ numeral c.args.text.now c.args.most = search rules in
+    number_at _ _ _ c.ranges.most.fits same
 
 pub returns-in_err-value : goal.returns-in_err-value
 returns-in_err-value c =
@@ -22,13 +18,6 @@ returns-in_err-value c =
     let step = at_drop_more (read_on c.args.most c.loop-digit.value) text i 0 c.loop-digit-test.true in
     let same : c.from_residual.result ≡ numeral text c.args.most = c.from_residual.ensures ∙ sym (read_stop c.args.most c.loop-digit.value (get_or text i 0) (drop (i + 1) text) c.in_err-value.ensures) ∙ sym step ∙ c.loop-digit.invariant ∙ sym (numeral_read text c.args.most some (sym c.if-has_needless_zero.ensures)) in
     record { value = same; law = number_at _ _ _ c.ranges.most.fits same }
-
-pub loop-digit-preserved : goal.loop-digit-preserved
-loop-digit-preserved c =
-    let text : List ℕ = c.args.text.now in
-    let i : ℕ = c.loop-digit.digit-index in
-    let step = at_drop_more (read_on c.args.most c.loop-digit.value) text i 0 c.loop-digit-test.true in
-    sym (read_next c.args.most c.loop-digit.value (get_or text i 0) c.in_ok-value.value (drop (i + 1) text) c.in_ok-value.ensures) ∙ sym step ∙ c.loop-digit.invariant
 
 pub returns : goal.returns
 returns c =
