@@ -1,12 +1,11 @@
 -- A row that was read is lawful.
-use Rattle.std.proofs.Common.{◌≡◌, ℕ, ◌+◌, ◌-◌, ◌<◌, ◌≤◌, Bool, true, false, cond, eqb, nat_le, List, [], ◌∷◌, ◌++◌, map, length, get_or, take, drop, set, replicate, Some, None, decimal, sum, Option, sym, refl, ap, ◌∙◌, subst, arith}
+use Rattle.std.proofs.Common.{◌≡◌, ℕ, ◌+◌, ◌-◌, ◌<◌, ◌≤◌, Bool, true, false, cond, eqb, List, [], ◌∷◌, ◌++◌, map, length, get_or, take, drop, set, replicate, Some, None, decimal, sum, Option, sym, refl, ap, ◌∙◌, subst, arith}
 use Rattle.std.specs.List.{AllByRecursion}
-use Rattle.std.specs.Option.{option_map}
 use Rattle.std.proofs.ByRecursion.{All-from_get_or}
 use Rattle.std.proofs.lemmas.List.{append_assoc, take_at, take_more, take_more_set, drop_more, get_or-take, get_or-replicate, length-replicate, set_at, length-map, length-append, length-take, length-take-le, map_push}
 use Rattle.std.proofs.lemmas.List.Folds.{sum_by-replicate}
 use Rattle.std.proofs.lemmas.List.Sums.{sum_by-append, get_or-le-sum_by}
-use Rattle.std.proofs.lemmas.Bool.{eqb-true, eq-eqb, and_parts, and_from, cond-true, le-leb}
+use Rattle.std.proofs.lemmas.Bool.{eqb-true, eq-eqb, and_parts, and_from, cond-true}
 use Rattle.lines.specs.Fields.{joined}
 use Rattle.lines.specs.Line.{Printable}
 use Rattle.reading.specs.Values.{list_of}
@@ -42,16 +41,15 @@ pub record RowRead (value : List ℕ) (grades own : ℕ) (hs : List ℕ) : Type 
   pub is : hs ≡ padded ns
 
 pub row_read : (value : List ℕ) (grades own : ℕ) (hs : List ℕ) → row_of value grades own ≡ Some hs → RowRead value grades own hs
-row_read value grades own hs e = roomy (nat_le grades most_grades) (list_of value hundred grades) refl e
+row_read value grades own hs e = found (list_of value hundred grades) refl e
   where
     passed : (ns : List ℕ) → list_of value hundred grades ≡ Some ns → (t : Bool) → adds_up own (padded ns) ≡ t → cond t (Some (padded ns)) None ≡ Some hs → RowRead value grades own hs
     passed ns q false p e = absurd (cc)
     passed ns q true p e = record { ns = ns; listed = q; long = ((list_law value hundred grades (omega arith) ns).0 q).2; test = p; is = cc }
 
-    roomy : (b : Bool) (o : Option (List ℕ)) → list_of value hundred grades ≡ o → tested own (cond b (option_map padded o) None) ≡ Some hs → RowRead value grades own hs
-    roomy false o q e = absurd (cc)
-    roomy true None q e = absurd (cc)
-    roomy true (Some ns) q e = passed ns q (adds_up own (padded ns)) refl e
+    found : (o : Option (List ℕ)) → list_of value hundred grades ≡ o → tested own o ≡ Some hs → RowRead value grades own hs
+    found None q e = absurd (cc)
+    found (Some ns) q e = passed ns q (adds_up own (padded ns)) refl e
 
 pub read_row_law : (value : List ℕ) (grades own : ℕ) (hs : List ℕ) → row_of value grades own ≡ Some hs → RowLaw hs (own + 1) grades
 read_row_law value grades own hs e =
@@ -128,8 +126,7 @@ module _ (row : List ℕ) (grades own : ℕ) (some : 0 < grades) (most : grades 
   pub row_back : row_of (joined (map decimal (take grades row))) grades own ≡ Some (padded (take grades row))
   row_back =
       let listed : list_of (joined (map decimal (take grades row))) hundred grades ≡ Some (take grades row) = (list_law (joined (map decimal (take grades row))) hundred grades (omega arith) (take grades row)).1 (refl, some, row_long, row_within) in
-      let room : nat_le grades most_grades ≡ true = le-leb grades most_grades most in
-      ap (λ o. tested own (cond (nat_le grades most_grades) (option_map padded o) None)) listed ∙ ap (tested own) (cond-true _ _ _ room) ∙ cond-true _ _ _ row_adds_up
+      ap (tested own) listed ∙ cond-true _ _ _ row_adds_up
 
   -- and its text fits a line
   pub row_printable : AllByRecursion Printable (joined (map decimal (take grades row)))

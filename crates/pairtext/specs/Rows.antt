@@ -1,6 +1,6 @@
 -- The rows of hundredths.
 use Rattle.std.specs.Prelude.{ℕ, Bool, cond, ◌&&◌, List, take, Some, None, sum, Option, ◌==◌}
-use Rattle.reading.specs.Values.{padded as padded_to, padded_list}
+use Rattle.reading.specs.Values.{padded as padded_to, list_of}
 use Rattle.pair.specs.Limits.{hundred, most_grades}
 pub use Rattle.pair.specs.Units.{all_zero}
 
@@ -14,8 +14,8 @@ padded = padded_to most_grades
 
 abbrev pub tested : ℕ → Option (List ℕ) → Option (List ℕ)
 tested own None = None
-tested own (Some row) = cond (adds_up own row) (Some row) None
+tested own (Some hs) = cond (adds_up own (padded hs)) (Some (padded hs)) None
 
 -- the row that a value lists, if it may stand there
 abbrev pub row_of : List ℕ → ℕ → ℕ → Option (List ℕ)
-row_of value grades own = tested own (padded_list most_grades value hundred grades)
+row_of value grades own = tested own (list_of value hundred grades)
