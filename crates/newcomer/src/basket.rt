@@ -1,5 +1,5 @@
 // A tariff of three places whose order is the sum of the places.
-ghost use Rattle.std.specs.Prelude.{◌≡◌, ◌^◌, ◌≤◌, [], ◌∷◌, ◌+ℤ◌, unsigned_abs, refl};
+ghost use Rattle.std.specs.Prelude.{◌≡◌, [], ◌∷◌, refl};
 ghost use Rattle.newcomer.specs.Basket.{basket_scale, contents};
 ghost use Rattle.std.proofs.Common.{arith, lit≤, rules};
 ghost use Rattle.std.proofs.lemmas.Int.{ints};
@@ -47,19 +47,11 @@ impl From<Basket> for [i64; 3] {
 #[derive(Clone, Copy)]
 pub struct ByBasket;
 
-// The sum of two places.
-fn both(a: i64, b: i64) -> i128
-    ensures value { result ≡ a +ℤ b }
-    ensures small { unsigned_abs result ≤ 2 ^ 64 }
-{
-    i128::from(a) + i128::from(b)
-}
-
 // The sum of the places.
 fn contents(a: Basket) -> i128
     ensures { result ≡ contents (a.seconds ∷ a.cents ∷ a.fees ∷ []) }
 {
-    both(a.seconds, a.cents) + i128::from(a.fees)
+    i128::from(a.seconds) + i128::from(a.cents) + i128::from(a.fees)
 }
 
 impl Tariff for ByBasket {

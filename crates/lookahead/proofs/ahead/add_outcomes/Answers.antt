@@ -1,16 +1,9 @@
-use Rattle.std.proofs.Common.{◌≡◌, ◌+◌, ◌<◌, map, length, drop, Some, None, sym, ap, ◌∙◌, arith}
+use Rattle.std.proofs.Common.{◌≡◌, ◌+◌, map, drop, Some, None, sym, ap, ◌∙◌}
 use Rattle.std.specs.Option.{option_map}
-use Rattle.std.proofs.lemmas.List.{drop_all}
 use Rattle.interface.specs.Plants.{outcomes_of}
 use Rattle.lookahead.specs.Steps.{then, add_outcome, add_outcomes}
-use Rattle.lookahead.proofs.Optional.{drop_nth, nth_there}
+use Rattle.lookahead.proofs.Optional.{drop_nth}
 use Rattle.lookahead.proofs.ahead.add_outcomes.Goals as goal
-
-pub returns-in_err-o : goal.returns-in_err-o
-returns-in_err-o g c =
-    let os = outcomes_of (g.P.Plant.model c.args.plant.now) c.args.state c.args.portfolio in
-    let inside : c.loop-k.k < length os = omega arith in
-    absurd (nth_there os c.loop-k.k inside (sym c.outcome.ensures ∙ c.in_err-o.was))
 
 pub returns-in_err-sum : goal.returns-in_err-sum
 returns-in_err-sum g c =
@@ -30,11 +23,3 @@ loop-k-preserved g c =
     let split = drop_nth os c.loop-k.k c.in_ok-o.o (sym c.outcome.ensures ∙ c.in_ok-o.was) in
     let some : add_outcome vs (row c.loop-k.sum) c.in_ok-o.o ≡ Some (row c.in_ok-sum.sum) = sym c.add_outcome.ensures ∙ ap (option_map row) c.in_ok-sum.was in
     sym (ap (λ z. then z (λ w. add_outcomes vs w (drop (c.loop-k.k + 1) os))) some) ∙ sym (ap (add_outcomes vs (row c.loop-k.sum)) split) ∙ c.loop-k.invariant
-
-pub returns : goal.returns
-returns g c =
-    let row = g.T.Tariff.row in
-    let vs = map row c.args.values.now in
-    let os = outcomes_of (g.P.Plant.model c.args.plant.now) c.args.state c.args.portfolio in
-    let all = drop_all c.loop-k.k os (omega arith) in
-    sym (ap (add_outcomes vs (row c.loop-k.sum)) all) ∙ c.loop-k.invariant

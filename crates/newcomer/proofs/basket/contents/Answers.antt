@@ -3,4 +3,4 @@ use Rattle.std.proofs.lemmas.Int.{ints}
 use Rattle.newcomer.proofs.basket.contents.Goals as goal
 
 pub returns : goal.returns
-returns c = omega (arith, ints, c.both.ensures.value, c.from.ensures)
+returns c = omega (arith, ints, c.from.ensures, c.from-2.ensures, c.from-3.ensures)
