@@ -20,6 +20,7 @@ use tariffs::priced::Priced;
 // The answer to a call that was not refused.
 const DONE: u32 = 0;
 
+// It and pair_in differ in the reader alone: one function that is lent the reader is no plainer than the two calls.
 fn chain_in(text: &[u8]) -> Result<Chain, ReadRefusal>
     ensures { ChainIn text.now result }
 {
@@ -32,6 +33,7 @@ fn pair_in(text: &[u8]) -> Result<Pair, ReadRefusal>
     read_pair(&mut Lines::new(text))
 }
 
+// It and ask_pair are one line each: ask_rounds is what they share.
 fn ask_chain(text: &[u8], rounds: u32) -> Result<u64, Refused>
     ensures { AsksChain text.now rounds (numbered result) }
 {

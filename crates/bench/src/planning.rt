@@ -91,6 +91,7 @@ pub(crate) fn told_plan<P: Plant, T: Tariff>(
     let mut values = [tariff.zero(); MOST_STATES];
     let mut working = [tariff.zero(); MOST_STATES];
     let mut policy = [0; MOST_STATES];
+    // Slices first, then of each the entries in use: the answers have the length of a slice of amounts, not of the array.
     let values = &mut values[..];
     let working = &mut working[..];
     plan_into(

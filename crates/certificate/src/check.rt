@@ -105,8 +105,8 @@ fn claims_near<T: Tariff>(tariff: &T, claims: Claims<T::Amount>) -> bool
     tariff.reach(claims.low) <= MOST_CLAIM && tariff.reach(claims.high) <= MOST_CLAIM
 }
 
-// All tests.
-fn tests<P: Plant, T: Tariff>(
+// Refused by the first test of a certificate that fails.
+fn certificate_holds<P: Plant, T: Tariff>(
     plant: &P,
     tariff: &T,
     values: &[T::Amount],
@@ -145,7 +145,7 @@ pub fn check<P: Plant, T: Tariff>(
     ensures verdict { Verdict T.Tariff.row (P.model plant.now) (T.scale tariff.now) (map T.Tariff.row values.now) policy.now claims.low claims.high result }
     ensures exact { ExactlySound T.Tariff.row (P.model plant.now) (T.scale tariff.now) (map T.Tariff.row values.now) policy.now claims.low claims.high result }
 {
-    tests(plant, tariff, values, policy, claims)?;
+    certificate_holds(plant, tariff, values, policy, claims)?;
     let top = finding::extreme(Aim::Greatest, tariff, values).ok_or(Refusal::WrongLength)?;
     let bottom = finding::extreme(Aim::Least, tariff, values).ok_or(Refusal::WrongLength)?;
     Ok(Finding {

@@ -44,7 +44,7 @@ fn lowest<P: Plant, T: Tariff>(valued: &ValuedPlant<P, T>) -> Option<Choice<T::A
     Aim::Least.first_best(valued.tariff, states, |state| state_low(valued, state))
 }
 
-// The gain of a state's portfolio, absent where that is not feasible.
+// The gain of a state's portfolio, absent where that is not feasible. The policy is asked by number, as first_best asks it.
 fn policy_gain<P: Plant, T: Tariff>(
     valued: &ValuedPlant<P, T>,
     policy: &[u16],
@@ -70,8 +70,8 @@ fn highest<P: Plant, T: Tariff>(
     )
 }
 
-// All tests.
-fn tests<P: Plant, T: Tariff>(
+// Refused by the first test of a value table and a policy that fails.
+fn inputs_hold<P: Plant, T: Tariff>(
     plant: &P,
     tariff: &T,
     values: &[T::Amount],
@@ -95,7 +95,7 @@ pub fn recipe<P: Plant, T: Tariff>(
 ) -> Result<Claims<T::Amount>, Refusal>
     ensures { Recipe T.Tariff.row (P.model plant.now) (T.scale tariff.now) (map T.Tariff.row values.now) policy.now result }
 {
-    tests(plant, tariff, values, policy)?;
+    inputs_hold(plant, tariff, values, policy)?;
     let table = ValueTable { amounts: values };
     let valued = ValuedPlant {
         plant,

@@ -22,7 +22,8 @@ impl Part {
 }
 
 impl ChainNumbers {
-    // The parts that there are, without what lies beyond them.
+    // The parts that there are, without what lies beyond them. The count's bound is asked here and where else it is needed, since
+    // any numbers may come: InRange and Chain, which know it, both ask, and a method of each would be there twice.
     pub(crate) fn parts(&self) -> &[Part]
         requires { self.now.count ≤ max_parts }
         ensures value { result.now ≡ take self.now.count self.now.parts }
@@ -33,7 +34,8 @@ impl ChainNumbers {
 }
 
 impl InRange {
-    // The hazards of all parts together when all are new.
+    // The hazards of all parts together when all are new. A loop: for `map` and `sum` the library shows that they stay in range by
+    // a bound on what the closure gives for any part, and only the parts of a chain have one.
     pub(crate) fn hazards_when_new(&self) -> u32
         ensures { result ≡ hazards_at self.now.numbers (λ _. 0) }
     {

@@ -40,7 +40,7 @@ impl InRange {
 }
 
 impl Chain {
-    // Whether the failed part, if there is one, is renewed.
+    // Whether the failed part, if there is one, is renewed. By number: the part that failed_part lends does not know its own.
     pub(crate) fn failure_renewed(&self, state: usize, portfolio: usize) -> bool
         ensures { result ≡ the_failure self.now.numbers state portfolio }
     {

@@ -69,6 +69,7 @@ pub(crate) struct InRange {
 }
 
 impl InRange {
+    // A test first: in a closure under `then` the invariant would need a clause of its own.
     pub(crate) fn new(numbers: ChainNumbers) -> Option<InRange>
         ensures { MatchOption result (LawfulNumbers numbers → ⊥) (λ r. r.numbers ≡ numbers) }
     {

@@ -10,12 +10,13 @@ use workorder::MAX_PARTS;
 pub struct ChainState {
     // The age of part i, from 1, is at index i - 1; what lies beyond the chain's parts is ignored, as in its numbers.
     pub ages: [usize; MAX_PARTS],
-    // The number of the failed part, or 0: a state's number is a number for the ages times as many as the parts and 1, and this.
+    // The failed part, numbered from 1 as the parts are, or 0, which is no part: the state's number is made with it.
+    // The field is public, and an Option would be another type for callers.
     pub failed: usize,
 }
 
 impl InRange {
-    // How many states there are: each part has its ages, and one or none has failed.
+    // How many states there are: each part has its ages, and one or none has failed. A loop for the reason at hazards_when_new.
     pub(crate) fn state_count(&self) -> usize
         ensures { result ≡ all_states self.now.numbers }
     {

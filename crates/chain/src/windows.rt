@@ -10,7 +10,7 @@ use workorder::holds;
 pub(crate) struct Window {
     // Of all parts together.
     pub(crate) hazards: u32,
-    // Of the part asked about, if the chain has it.
+    // Of the part asked about, and 0 where the chain has no such part: nobody reads it then.
     pub(crate) hazard: u32,
     // The number of the state in which every part is one window older than at its start, and none has failed.
     pub(crate) next: usize,
@@ -19,6 +19,7 @@ pub(crate) struct Window {
 impl Chain {
     // The window with this portfolio in this state; absent exactly when a part at its life is not renewed.
     // Each turn takes the age of one part from the state's number, and puts the age a window later into the next one's.
+    // The part asked about is the number of an outcome as it comes, and outcome 0 is of no part, so 0 asks about none.
     pub(crate) fn coming_window(
         &self,
         state: usize,

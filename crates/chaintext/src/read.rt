@@ -90,12 +90,12 @@ struct Complete {
     line: usize,
 }
 
-// Reads the lines of a chain up to its end.
+// Reads the lines of a chain up to its end. A pair is read by the same loop: a trait for both readers would be longer.
 fn read_lines(lines: &mut Lines) -> Result<Complete, ReadRefusal>
     ensures { ReadsLines lines.old.rest.now lines.old.place lines.new.rest.now lines.new.place result }
 {
     let mut reader = ChainReader::new();
-    'reading: loop {
+    loop {
         let read = lines.next_line();
         let line = read.place;
         reader

@@ -10,7 +10,8 @@ use reading::values::{number_between, number_list};
 use workorder::{Arc, MAX_PARTS};
 
 impl ChainReader {
-    // A word that is due, as kind=chain or end=plant.
+    // A word that is due, as kind=chain or end=plant. The pair's reader has the like: the stages are of two types, and a trait
+    // for both would be longer than the method.
     fn take_word(&mut self, value: &[u8], word: &[u8], next: Stage) -> Result<(), Rule>
         ensures { Took (word_step self.old value.now word.now next) self.old self.new result }
     {
@@ -82,7 +83,8 @@ impl ChainReader {
         self.opened.checked_sub(1).filter(|at| *at < MAX_PARTS)
     }
 
-    // life=1 to 20
+    // life=1 to 20. This one, surplus and dark differ in the field and in the stage behind: as one function they would take
+    // a closure for each, which is no plainer.
     fn take_life(&mut self, value: &[u8]) -> Result<(), Rule>
         ensures { Took (life_step self.old value.now) self.old self.new result }
     {

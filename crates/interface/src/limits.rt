@@ -25,7 +25,8 @@ pub const MOST_REACH: u64 = 1_000_000_000_000_000_000;
 // The largest number by which an amount is multiplied.
 pub const MOST_FACTOR: u32 = 10_000;
 
-// The constants above are the numbers that the laws of plants and tariffs name.
+// The constants above are the numbers that the laws of plants and tariffs name. Nothing is done here, since a constant has
+// no clauses of its own: the function stands for its clauses.
 pub fn all()
     ensures plant { (MOST_STATES ≡ most_states) × (MOST_PORTFOLIOS ≡ most_portfolios) × (MOST_OUTCOMES ≡ most_outcomes) × (WHOLE ≡ whole) }
     ensures bill { (MOST_SECONDS ≡ most_seconds) × (MOST_CENTS ≡ most_cents) }

@@ -31,6 +31,7 @@ pub fn reach<const N: usize>(a: [i64; N]) -> u64
 }
 
 // The sum of two amounts, absent exactly when their reaches together exceed MOST_REACH.
+// It and the difference are the same but for the operator: one function that is lent the operator is no plainer.
 pub fn sum<const N: usize>(mut a: [i64; N], b: [i64; N]) -> Option<[i64; N]>
     ensures { Answers (λ u. u) result (summable a.entry b.entry) (plus a.entry b.entry) }
 {

@@ -55,7 +55,8 @@ impl Aim {
         }
     }
 
-    // The best of the amounts numbered below a count, the first among equals.
+    // The best of the amounts numbered below a count, the first among equals. It asks that the closure may be called, as
+    // std's own functions that take closures do, and nothing else.
     pub fn first_best<T: Tariff, F: Fn(usize) -> Option<T::Amount>>(
         self,
         tariff: &T,

@@ -5,7 +5,7 @@ pub mod limits;
 pub mod numbers;
 pub mod plant;
 pub mod portfolios;
-mod ranges;
+pub mod ranges;
 pub mod refusal;
 pub mod states;
 mod units;

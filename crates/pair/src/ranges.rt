@@ -16,7 +16,8 @@ fn total(row: &[u32]) -> u64
     row.iter().map(|h| u64::from(*h)).sum()
 }
 
-fn all_zero(hundredths: &[u32]) -> bool
+// Whether there is nothing but zeros.
+pub fn all_zero(hundredths: &[u32]) -> bool
     ensures { result ≡ all_zero hundredths.now }
 {
     hundredths.iter().all(|h| *h == 0)

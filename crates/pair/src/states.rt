@@ -1,4 +1,4 @@
-// The states of a pair, numbered by the grades of its units: those of unit one run fastest.
+// What a state of a pair is; its number is in plant.rt.
 
 // The grades of both units, each from 1.
 #[derive(Clone, Copy, PartialEq, Eq, Debug)]

@@ -1,20 +1,14 @@
 // The rows of hundredths.
 ghost use Rattle.std.specs.Prelude.{◌≡◌, ◌≤◌, length};
 ghost use Rattle.pair.specs.Limits.{most_grades};
-ghost use Rattle.pair.specs.Units.{all_zero};
 ghost use Rattle.pairtext.specs.Rows.{adds_up, row_of};
 
 use pair::limits::{HUNDRED, MOST_GRADES};
+use pair::ranges::all_zero;
 use reading::values::number_list;
 
-fn all_zero(hundredths: &[u32]) -> bool
-    ensures { result ≡ all_zero hundredths.now }
-{
-    hundredths.iter().all(|h| *h == 0)
-}
-
-// Whether a row adds up to 100, and has zeros before index `own`. The pair's own test of a row stays private: it asks
-// for a length, which no public function may.
+// Whether a row adds up to 100, and has zeros before index `own`. The pair's own test is of a unit's row, and this one
+// is not put into its unit yet. It takes a slice: that the sum fits is found from a bound of the length, and not for an array.
 fn adds_up(row: &[u32], own: usize) -> bool
     requires { (length row.now ≤ most_grades) × (own ≤ length row.now) }
     ensures { result ≡ adds_up own row.now }

@@ -22,7 +22,8 @@ const END: &[u8] = b"plant";
 
 // A method for each number: it fills one field and names the stage behind it, and a field is no parameter.
 impl PairReader {
-    // The word that is due, behind which comes the next stage.
+    // The word that is due, behind which comes the next stage. The chain's reader has the like: the stages are of two types,
+    // and a trait for both would be longer than the method.
     fn take_word(&mut self, value: &[u8], word: &[u8], next: Stage) -> Result<(), Rule>
         ensures answer { result ≡ answer_of (on_word value.now word.now (at_stage next self.old)) }
         ensures after { self.new ≡ reader_after self.old (on_word value.now word.now (at_stage next self.old)) }

@@ -43,7 +43,8 @@ impl PairReader {
     }
 }
 
-// Reads a pair up to its last line, or to the first line that is refused.
+// Reads a pair up to its last line, or to the first line that is refused. A chain is read by the same loop: a trait for
+// both readers would be longer than it.
 pub fn read_pair(lines: &mut Lines) -> Result<Pair, ReadRefusal>
     ensures answer { answered result ≡ (read_pair lines.old.rest.now lines.old.place).answer }
     ensures rest { lines.new.rest.now ≡ (read_pair lines.old.rest.now lines.old.place).rest }

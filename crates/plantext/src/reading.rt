@@ -27,7 +27,8 @@ fn row_after(states: usize, state: usize) -> Stage
 }
 
 // How far a plan has been read: the line that is due, the number of states and the claims. The tables stay parameters:
-// lent into the reader, each of its methods would owe besides that it still holds the caller's.
+// lent into the reader, each of its methods would owe besides that it still holds the caller's. Nor are they one record:
+// each is lent by itself, so each has its own length to be inside of, until the first line has told that they are level.
 #[derive(Drop)]
 pub(crate) struct Reader<A> {
     due: Option<Stage>,
@@ -44,6 +45,7 @@ impl<A: Copy> Reader<A> {
         Ok(())
     }
 
+    // The next one differs in the field and in the line behind: as one function they would take a closure for the field.
     fn take_low<T: Tariff<Amount = A>>(&mut self, tariff: &T, value: &[u8]) -> Result<(), Fault>
         ensures { (vs : List A) (xs : List ℕ) → Judged result (value_fault (T.scale tariff.now).places Stage.Low value.now) (TakesLow (T.scale tariff.now).places value.now (progress T.Tariff.row self.old vs xs) (progress T.Tariff.row self.new vs xs)) }
     {
@@ -153,6 +155,7 @@ impl<A: Copy> Reader<A> {
         requires few { length values.old ≤ most_states }
         ensures { ReadsBehind (T.scale tariff.now).places (length values.old) (progress T.Tariff.row self.new values.new policy.new).plan lines.old.rest.now lines.old.place result }
     {
+        // The line that is due is told by the one before, so there is no list of them for a `for`.
         while self.due.is_some() {
             self.read_line(tariff, lines, values, policy)?;
         }

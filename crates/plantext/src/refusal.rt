@@ -55,7 +55,8 @@ impl Fault {
     }
 }
 
-// The fault of a line that is none, by its number.
+// The fault of a line that is none, by its number. The readers of plants tell it by a like test, as a rule of theirs; a
+// plan's text stands on none of them.
 impl From<u8> for Fault {
     ghost use Rattle.plantext.specs.Reading.{said_fault};
 

@@ -30,10 +30,7 @@ fn read_places<T: Tariff>(tariff: &T, mut fields: Fields) -> Option<T::Amount>
         let place = signed(fields.next()?)?;
         amount = tariff.with_place(amount, i, place)?;
     }
-    if fields.next().is_some() {
-        return None;
-    }
-    Some(amount)
+    fields.next().is_none().then_some(amount)
 }
 
 // An amount.

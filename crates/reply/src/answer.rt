@@ -9,7 +9,7 @@ use reading::rules::ReadRefusal;
 use std::alloc::AllocError;
 use std::fmt;
 
-// Why a request has no plan.
+// Why a request has no plan: what its text says.
 #[derive(Clone, Copy, PartialEq, Eq, Debug)]
 pub enum Refusal {
     // The text breaks a rule at a line.
@@ -51,7 +51,7 @@ impl fmt::Display for Refusal {
     }
 }
 
-// Why a request is not answered by a plan.
+// Why no plan is given: the request has none, or memory is wanting.
 #[derive(Clone, Copy, PartialEq, Eq, Debug)]
 pub enum Unanswered {
     // It has none.

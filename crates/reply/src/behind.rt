@@ -1,16 +1,15 @@
 // What stands behind the plant in a request, and the reply to it.
-ghost use Rattle.std.specs.Prelude.{◌≡◌, ◌≤◌};
-ghost use Rattle.planner.specs.Sweeps.{most_sweeps};
 ghost use Rattle.request.specs.Writing.{RateInRange};
 ghost use Rattle.reply.specs.Laws.{Tail};
 ghost use Rattle.reply.specs.Replies.{Answered, PlansAs, scale_of, BehindPlant};
 
 use crate::answer::Unanswered;
 use crate::planning::reply_with;
+use crate::sweeps::Sweeps;
 use interface::plant::Plant;
 use lines::reading::Lines;
 use request::ending::read_end;
-use request::sweeps::{SweepsLine, read_sweeps};
+use request::sweeps::read_sweeps;
 use request::tariff::{TariffChoice, read_tariff};
 use std::alloc::Global;
 use tariffs::air_first::AirFirst;
@@ -21,11 +20,10 @@ fn reply_under<P: Plant>(
     heap: Global,
     plant: &P,
     tariff: TariffChoice,
-    sweeps: SweepsLine,
+    sweeps: Sweeps,
 ) -> Result<Vec<u8>, Unanswered>
-    requires rate { RateInRange tariff }
-    requires few { sweeps.count ≤ most_sweeps }
-    ensures { Answered (PlansAs (P.model plant.now) (scale_of tariff) sweeps) (Unit {0}) result }
+    requires { RateInRange tariff }
+    ensures { Answered (PlansAs (P.model plant.now) (scale_of tariff) sweeps.named) (Unit {0}) result }
 {
     match tariff {
         TariffChoice::Priced(rate) => {
@@ -44,7 +42,7 @@ pub(crate) fn reply_behind<P: Plant>(
     ensures { Answered (BehindPlant (P.model plant.now) lines.old.rest.now lines.old.place) (Tail lines.old.rest.now) result }
 {
     let tariff = read_tariff(lines)?;
-    let sweeps = read_sweeps(lines)?;
+    let named = read_sweeps(lines)?;
     read_end(lines)?;
-    reply_under(heap, plant, tariff, sweeps)
+    reply_under(heap, plant, tariff, Sweeps { named })
 }

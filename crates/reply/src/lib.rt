@@ -5,4 +5,5 @@ pub mod answer;
 mod behind;
 mod planning;
 pub mod replying;
+mod sweeps;
 mod writing;

@@ -1,14 +1,13 @@
 // The plan of a plant under a tariff, in tables of its own.
-ghost use Rattle.std.specs.Prelude.{◌≡◌, ◌≤◌, length};
-ghost use Rattle.planner.specs.Sweeps.{most_sweeps};
+ghost use Rattle.std.specs.Prelude.{◌≡◌, length};
 ghost use Rattle.reply.specs.Replies.{Answered, PlansAs};
 
 use crate::answer::{Refusal, Unanswered};
+use crate::sweeps::Sweeps;
 use crate::writing::push_plan;
 use interface::plant::Plant;
 use interface::tariff::Tariff;
 use planner::plan::plan;
-use request::sweeps::SweepsLine;
 use std::alloc::Global;
 
 // Plans in the lent tables, and gives the text of the plan.
@@ -16,19 +15,18 @@ fn text_of_plan<P: Plant, T: Tariff>(
     heap: Global,
     plant: &P,
     tariff: &T,
-    sweeps: SweepsLine,
+    sweeps: Sweeps,
     values: &mut [T::Amount],
     working: &mut [T::Amount],
     policy: &mut [u16],
 ) -> Result<Vec<u8>, Unanswered>
-    requires few { sweeps.count ≤ most_sweeps }
     requires values { length values.old ≡ (P.model plant.now).states }
     requires working { length working.old ≡ (P.model plant.now).states }
     requires policy { length policy.old ≡ (P.model plant.now).states }
-    ensures { Answered (PlansAs (P.model plant.now) (T.scale tariff.now) sweeps) (Unit {0}) result }
+    ensures { Answered (PlansAs (P.model plant.now) (T.scale tariff.now) sweeps.named) (Unit {0}) result }
 {
-    let planned = plan(plant, tariff, sweeps.count, values, working, policy);
-    let claims = planned.map_err(|_| Refusal::BeyondReach(sweeps.line))?;
+    let planned = plan(plant, tariff, sweeps.named.count, values, working, policy);
+    let claims = planned.map_err(|_| Refusal::BeyondReach(sweeps.named.line))?;
     let mut text = Vec::new(heap);
     push_plan(tariff, values, policy, claims, &mut text)?;
     Ok(text)
@@ -39,10 +37,9 @@ pub(crate) fn reply_with<P: Plant, T: Tariff>(
     heap: Global,
     plant: &P,
     tariff: &T,
-    sweeps: SweepsLine,
+    sweeps: Sweeps,
 ) -> Result<Vec<u8>, Unanswered>
-    requires { sweeps.count ≤ most_sweeps }
-    ensures { Answered (PlansAs (P.model plant.now) (T.scale tariff.now) sweeps) (Unit {0}) result }
+    ensures { Answered (PlansAs (P.model plant.now) (T.scale tariff.now) sweeps.named) (Unit {0}) result }
 {
     let states = plant.states();
     let mut values = vec![in heap; tariff.zero(); states]?;

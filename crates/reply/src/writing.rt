@@ -28,6 +28,7 @@ pub(crate) fn push_plan<T: Tariff>(
     let mut space = [0; LINE_ROOM];
     for j in 0..count {
         let written = plan_line(tariff, values, policy, claims, j, &mut space);
+        // A line stands at the front of its space, and its length is all that plan_line answers.
         let length = written.unwrap().unwrap();
         out.extend_from_slice(&space[0..length])?;
     }

@@ -36,10 +36,11 @@ fn priced_by(mut fields: Fields) -> Result<TariffChoice, Rule>
 fn air_first_by(mut fields: Fields) -> Result<TariffChoice, Rule>
     ensures { result ≡ air_first_by (further fields.entry.rest) }
 {
-    match fields.next() {
-        None => Ok(TariffChoice::AirFirst),
-        Some(_) => Err(Rule::OutOfRange),
-    }
+    fields
+        .next()
+        .is_none()
+        .then_some(TariffChoice::AirFirst)
+        .ok_or(Rule::OutOfRange)
 }
 
 // The word of a tariff, and what suits it.

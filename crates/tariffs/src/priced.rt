@@ -110,6 +110,7 @@ impl Tariff for Priced {
         a <= b
     }
 
+    // Each tariff answers the interface by itself, for its own amount: what the answers share is in places.
     fn sum(&self, a: Cost, b: Cost) -> Option<Cost> {
         places::sum(a.into(), b.into()).map(Cost::from)
     }

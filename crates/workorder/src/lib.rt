@@ -42,7 +42,8 @@ pub fn holds(portfolio: usize, part: usize) -> bool
     (portfolio >> (part - 1)) % 2 == 1
 }
 
-// The lesser of two numbers, each of which may be absent. Option has no method for it, and two of them are no plainer than the cases.
+// The lesser of two numbers, each of which may be absent: one step of both searches below. `filter_map` and `min` would go by
+// functions of an arc and of a part, where the clauses of what is searched are properties (Usable, LeastOf).
 fn lesser(best: Option<u64>, other: Option<u64>) -> Option<u64>
     ensures { result ≡ the_lesser best other }
 {

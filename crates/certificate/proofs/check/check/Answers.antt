@@ -7,17 +7,17 @@ use Rattle.certificate.proofs.Extremes.{extreme_absent, extreme_there}
 use Rattle.certificate.proofs.Soundness.{sound_from, sound_to}
 use Rattle.certificate.proofs.check.check.Goals as goal
 
-pub returns-in_err-tests-clause-exact : goal.returns-in_err-tests-clause-exact
-returns-in_err-tests-clause-exact g c =
+pub returns-in_err-certificate_holds-clause-exact : goal.returns-in_err-certificate_holds-clause-exact
+returns-in_err-certificate_holds-clause-exact g c =
     let row = g.T.Tariff.row in
     let m = g.P.Plant.model c.args.plant.now in
     let t = g.T.Tariff.scale c.args.tariff.now in
     let vs = map row c.args.values.now in
-    let out : c.from_residual.result ≡ Err c.in_err-tests.field-0.0 = search rules in
+    let out : c.from_residual.result ≡ Err c.in_err-certificate_holds.field-0.0 = search rules in
     subst (ExactlySound row m t vs c.args.policy.now c.args.claims.low c.args.claims.high) (sym out)
     (λ sound.
     let none = sound_to m (g.met.P.Plant.lawful c.args.plant.now) t vs c.args.policy.now (row c.args.claims.low) (row c.args.claims.high) sound in
-    let some = sym c.tests.ensures ∙ ap result_err c.in_err-tests.was in
+    let some = sym c.certificate_holds.ensures ∙ ap result_err c.in_err-certificate_holds.was in
     let z : ◌≡◌ {A = ℕ} 0 1 = cc in omega arith)
 
 pub returns-in_err-top : goal.returns-in_err-top
@@ -26,7 +26,7 @@ returns-in_err-top g c =
     let t = g.T.Tariff.scale c.args.tariff.now in
     let lawful = g.met.P.Plant.lawful c.args.plant.now in
     let xs = c.args.values.now in
-    let sound = sound_from (g.P.Plant.model c.args.plant.now) lawful t (map row xs) c.args.policy.now (row c.args.claims.low) (row c.args.claims.high) (sym c.tests.ensures ∙ ap result_err c.in_ok-tests.was) in
+    let sound = sound_from (g.P.Plant.model c.args.plant.now) lawful t (map row xs) c.args.policy.now (row c.args.claims.low) (row c.args.claims.high) (sym c.certificate_holds.ensures ∙ ap result_err c.in_ok-certificate_holds.was) in
     let some : 1 ≤ length xs = omega (arith, lawful.some_states, sound.values.long, length-map xs row) in
     absurd (extreme_absent row t (g.met.T.Tariff.lawful c.args.tariff.now) (g.met.T.Tariff.fits c.args.tariff.now) xs Greatest c.extreme.result c.extreme.ensures some (c.ok_or.ensures.ok_part ∙ ap result_ok c.in_err-top.was))
 
@@ -36,7 +36,7 @@ returns-in_err-bottom g c =
     let t = g.T.Tariff.scale c.args.tariff.now in
     let lawful = g.met.P.Plant.lawful c.args.plant.now in
     let xs = c.args.values.now in
-    let sound = sound_from (g.P.Plant.model c.args.plant.now) lawful t (map row xs) c.args.policy.now (row c.args.claims.low) (row c.args.claims.high) (sym c.tests.ensures ∙ ap result_err c.in_ok-tests.was) in
+    let sound = sound_from (g.P.Plant.model c.args.plant.now) lawful t (map row xs) c.args.policy.now (row c.args.claims.low) (row c.args.claims.high) (sym c.certificate_holds.ensures ∙ ap result_err c.in_ok-certificate_holds.was) in
     let some : 1 ≤ length xs = omega (arith, lawful.some_states, sound.values.long, length-map xs row) in
     absurd (extreme_absent row t (g.met.T.Tariff.lawful c.args.tariff.now) (g.met.T.Tariff.fits c.args.tariff.now) xs Least c.extreme-2.result c.extreme-2.ensures some (c.ok_or-2.ensures.ok_part ∙ ap result_ok c.in_err-bottom.was))
 
@@ -48,7 +48,7 @@ returns g c =
     let scaled = g.met.T.Tariff.lawful c.args.tariff.now in
     let fits = g.met.T.Tariff.fits c.args.tariff.now in
     let xs = c.args.values.now in
-    let none = sym c.tests.ensures ∙ ap result_err c.in_ok-tests.was in
+    let none = sym c.certificate_holds.ensures ∙ ap result_err c.in_ok-certificate_holds.was in
     let sound = sound_from m (g.met.P.Plant.lawful c.args.plant.now) t (map row xs) c.args.policy.now (row c.args.claims.low) (row c.args.claims.high) none in
     let many : length xs ≡ m.states = sym (length-map xs row) ∙ sound.values.long in
     let top = c.in_ok-top.top in

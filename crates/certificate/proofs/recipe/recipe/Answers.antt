@@ -8,7 +8,7 @@ use Rattle.certificate.proofs.recipe.recipe.Goals as goal
 
 pub invariant_of-valued : goal.invariant_of-valued
 invariant_of-valued g c =
-    let ready = fitting_from g.T.Tariff.row (g.P.Plant.model c.args.plant.now) (g.T.Tariff.scale c.args.tariff.now) c.args.values.now c.args.policy.now (sym c.tests.ensures ∙ ap result_err c.in_ok-tests.was) in
+    let ready = fitting_from g.T.Tariff.row (g.P.Plant.model c.args.plant.now) (g.T.Tariff.scale c.args.tariff.now) c.args.values.now c.args.policy.now (sym c.inputs_hold.ensures ∙ ap result_err c.in_ok-inputs_hold.was) in
     record { within = ready.within }
 
 pub returns-in_err-low : goal.returns-in_err-low
@@ -17,7 +17,7 @@ returns-in_err-low g c =
     let m = g.P.Plant.model c.args.plant.now in
     let t = g.T.Tariff.scale c.args.tariff.now in
     let xs = c.args.values.now in
-    let ready = fitting_from row m t xs c.args.policy.now (sym c.tests.ensures ∙ ap result_err c.in_ok-tests.was) in
+    let ready = fitting_from row m t xs c.args.policy.now (sym c.inputs_hold.ensures ∙ ap result_err c.in_ok-inputs_hold.was) in
     let fit = fits_map row t.places (g.met.T.Tariff.fits c.args.tariff.now) xs in
     let many : length xs ≡ m.states = sym (length-map xs row) ∙ ready.within.long in
     absurd (lowest_absent m (g.met.P.Plant.lawful c.args.plant.now) t (g.met.T.Tariff.lawful c.args.tariff.now) (map row xs) ready.within.long fit row c.lowest.result (length xs) many c.lowest.ensures
@@ -30,7 +30,7 @@ returns-in_err-high g c =
     let t = g.T.Tariff.scale c.args.tariff.now in
     let xs = c.args.values.now in
     let ps = c.args.policy.now in
-    let ready = fitting_from row m t xs ps (sym c.tests.ensures ∙ ap result_err c.in_ok-tests.was) in
+    let ready = fitting_from row m t xs ps (sym c.inputs_hold.ensures ∙ ap result_err c.in_ok-inputs_hold.was) in
     let fit = fits_map row t.places (g.met.T.Tariff.fits c.args.tariff.now) xs in
     absurd (highest_absent m (g.met.P.Plant.lawful c.args.plant.now) t (g.met.T.Tariff.lawful c.args.tariff.now) (map row xs) ready.within.long fit ps ready.feasible row c.highest.result (length ps) ready.policy c.highest.ensures
     (c.ok_or-2.ensures.ok_part ∙ ap result_ok c.in_err-high.was))
@@ -44,7 +44,7 @@ returns g c =
     let scaled = g.met.T.Tariff.lawful c.args.tariff.now in
     let xs = c.args.values.now in
     let ps = c.args.policy.now in
-    let none = sym c.tests.ensures ∙ ap result_err c.in_ok-tests.was in
+    let none = sym c.inputs_hold.ensures ∙ ap result_err c.in_ok-inputs_hold.was in
     let ready = fitting_from row m t xs ps none in
     let fit = fits_map row t.places (g.met.T.Tariff.fits c.args.tariff.now) xs in
     let long = ready.within.long in

@@ -9,17 +9,17 @@ use Rattle.chaintext.proofs.read.read_lines.Goals as goal
 use Rattle.chaintext.proofs.read.read_lines.Goals.{In_ok-map_err}
 
 -- a line that is taken is a step of what is read
-step : (c : goal.In_ok-map_err) → line_step c.reading.reader (line_at c.reading.lines.rest.now) ≡ Ok c.take_line.new.self
+step : (c : goal.In_ok-map_err) → line_step c.loop-reader.reader (line_at c.loop-reader.lines.rest.now) ≡ Ok c.take_line.new.self
 step c =
-    let d = c.reading.reader in
-    let said_at : said c.next_line-read.result.line ≡ line_at c.reading.lines.rest.now = c.next_line-read.ensures.line in
+    let d = c.loop-reader.reader in
+    let said_at : said c.next_line-read.result.line ≡ line_at c.loop-reader.lines.rest.now = c.next_line-read.ensures.line in
     sym (ap (line_step d) said_at) ∙ took_on (line_step d (said c.next_line-read.result.line)) d c.take_line.new.self c.take_line.result c.map_err.result _ _ c.in_ok-map_err.was c.map_err.ensures.cases c.take_line.ensures
 
 pub returns-in_err-map_err : goal.returns-in_err-map_err
 returns-in_err-map_err c =
-    let d = c.reading.reader in
-    let text = c.reading.lines.rest.now in
-    let place = c.reading.lines.place in
+    let d = c.loop-reader.reader in
+    let text = c.loop-reader.lines.rest.now in
+    let place = c.loop-reader.lines.place in
     let read = c.next_line-read.ensures in
     let line : said c.next_line-read.result.line ≡ line_at text = read.line in
     let f = c.in_err-map_err.field-0.0 in
@@ -28,35 +28,35 @@ returns-in_err-map_err c =
     let steps : line_step d (line_at text) ≡ Err f.rule = sym (ap (line_step d) line) ∙ err in
     let p = err_from_is_err_and c.from_residual.result c.from_residual.ensures.1 in
     let is : c.from_residual.result ≡ Err f = p.1 ∙ ap Err p.2 in
-    let last = refused_here d text place c.reading.invariant.0 _ _ read.rest (read.count ∙ ap (λ l. place + taken l) line) f.rule _ (rule.1 ∙ read.place) steps in
-    subst (ReadsLines c.args.lines.now.rest.now c.args.lines.now.place c.next_line-read.new.self.rest.now c.next_line-read.new.self.place) (sym is) (c.reading.invariant.1 _ last)
+    let last = refused_here d text place c.loop-reader.invariant.0 _ _ read.rest (read.count ∙ ap (λ l. place + taken l) line) f.rule _ (rule.1 ∙ read.place) steps in
+    subst (ReadsLines c.args.lines.now.rest.now c.args.lines.now.place c.next_line-read.new.self.rest.now c.next_line-read.new.self.place) (sym is) (c.loop-reader.invariant.1 _ last)
 
 pub returns-then-eq : goal.returns-then-eq
 returns-then-eq c =
-    let d = c.reading.reader in
-    let text = c.reading.lines.rest.now in
-    let place = c.reading.lines.place in
+    let d = c.loop-reader.reader in
+    let text = c.loop-reader.lines.rest.now in
+    let place = c.loop-reader.lines.place in
     let read = c.next_line-read.ensures in
     let line : said c.next_line-read.result.line ≡ line_at text = read.line in
     let next = c.take_line.new.self in
     let done : next.stage ≡ stage.Done = search rules in
-    let last = complete_here d text place c.reading.invariant.0 _ _ read.rest (read.count ∙ ap (λ l. place + taken l) line) next (step (goal.at.returns-then-eq c).In_ok-map_err) done in
-    (c.reading.invariant.1 _ last.0, read.place ∙ last.1)
+    let last = complete_here d text place c.loop-reader.invariant.0 _ _ read.rest (read.count ∙ ap (λ l. place + taken l) line) next (step (goal.at.returns-then-eq c).In_ok-map_err) done in
+    (c.loop-reader.invariant.1 _ last.0, read.place ∙ last.1)
 
-pub reading-smaller : goal.reading-smaller
-reading-smaller c =
+pub loop-reader-smaller : goal.loop-reader-smaller
+loop-reader-smaller c =
     let read = c.next_line-read.ensures in
-    subst (λ w. length w < length c.reading.lines.rest.now) (sym read.rest) (shorter c.reading.reader c.take_line.new.self c.reading.lines.rest.now (step (goal.at.reading-smaller c).In_ok-map_err))
+    subst (λ w. length w < length c.loop-reader.lines.rest.now) (sym read.rest) (shorter c.loop-reader.reader c.take_line.new.self c.loop-reader.lines.rest.now (step (goal.at.loop-reader-smaller c).In_ok-map_err))
 
-pub reading-preserved : goal.reading-preserved
-reading-preserved c =
-    let d = c.reading.reader in
-    let text = c.reading.lines.rest.now in
-    let place = c.reading.lines.place in
+pub loop-reader-preserved : goal.loop-reader-preserved
+loop-reader-preserved c =
+    let d = c.loop-reader.reader in
+    let text = c.loop-reader.lines.rest.now in
+    let place = c.loop-reader.lines.place in
     let read = c.next_line-read.ensures in
     let line : said c.next_line-read.result.line ≡ line_at text = read.line in
     let next = c.take_line.new.self in
     let on : next.stage ≡ stage.Done → ⊥ = search rules in (
       on,
-      λ o reads. c.reading.invariant.1 o (further d text place c.reading.invariant.0 _ _ read.rest (read.count ∙ ap (λ l. place + taken l) line) next o (step (goal.at.reading-preserved c).In_ok-map_err) reads),
+      λ o reads. c.loop-reader.invariant.1 o (further d text place c.loop-reader.invariant.0 _ _ read.rest (read.count ∙ ap (λ l. place + taken l) line) next o (step (goal.at.loop-reader-preserved c).In_ok-map_err) reads),
     )

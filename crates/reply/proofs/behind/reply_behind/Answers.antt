@@ -6,8 +6,8 @@ use Rattle.reply.proofs.behind.reply_behind.Goals as goal
 pub returns : goal.returns
 returns g c =
     let t = c.in_ok-tariff.ensures in
-    let s = c.in_ok-sweeps.ensures in
+    let s = c.in_ok-named.ensures in
     let e = c.in_ok-read_end.ensures in
     let m = g.P.Plant.model c.args.plant.now in
     let text = c.args.lines.now.rest.now in
-    follows c.reply_under.result (λ r h. at_end m text c.args.lines.now.place c.in_ok-tariff.tariff t.value c.read_tariff.new.lines.rest.now c.read_tariff.new.lines.place t.rest t.count r c.in_ok-sweeps.sweeps s.value c.read_sweeps.new.lines.rest.now c.read_sweeps.new.lines.place s.rest s.count (Ok tt) e.value h) (λ u. tail text c.read_tariff.new.lines.rest.now c.read_sweeps.new.lines.rest.now c.in_ok-tariff.tariff c.in_ok-sweeps.sweeps t.law s.law e.law) c.reply_under.ensures
+    follows c.reply_under.result (λ r h. at_end m text c.args.lines.now.place c.in_ok-tariff.tariff t.value c.read_tariff.new.lines.rest.now c.read_tariff.new.lines.place t.rest t.count r c.in_ok-named.named s.value c.read_sweeps.new.lines.rest.now c.read_sweeps.new.lines.place s.rest s.count (Ok tt) e.value h) (λ u. tail text c.read_tariff.new.lines.rest.now c.read_sweeps.new.lines.rest.now c.in_ok-tariff.tariff c.in_ok-named.named t.law s.law e.law) c.reply_under.ensures

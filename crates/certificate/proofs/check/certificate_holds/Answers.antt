@@ -1,7 +1,7 @@
 use Rattle.std.proofs.Common.{sym, ap, ◌∙◌}
 use Rattle.std.specs.Result.{result_err}
 use Rattle.certificate.proofs.Refused.{within_from}
-use Rattle.certificate.proofs.check.tests.Goals as goal
+use Rattle.certificate.proofs.check.certificate_holds.Goals as goal
 
 pub invariant_of-states_hold : goal.invariant_of-states_hold
 invariant_of-states_hold g c =
