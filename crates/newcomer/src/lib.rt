@@ -16,7 +16,7 @@ mod tests {
     // The planner and the check serve both newcomers with no change: the plan of a lamp is a sound certificate.
     #[test]
     fn plans_and_certifies(rt: HostRuntime) -> Result<(), Fail> {
-        let lamp = Lamp::new(2500).ok_or(Fail::new("the weight is in range"))?;
+        let lamp = Lamp::new(2500).ok_or_else(|| Fail::new("the weight is in range"))?;
         let zero = ByBasket.zero();
         let mut values = [zero; 2];
         let mut working = [zero; 2];
