@@ -105,7 +105,8 @@ fn claims_near<T: Tariff>(tariff: &T, claims: Claims<T::Amount>) -> bool
     tariff.reach(claims.low) <= MOST_CLAIM && tariff.reach(claims.high) <= MOST_CLAIM
 }
 
-// Refused by the first test of a certificate that fails.
+// Refused by the first test of a certificate that fails. The tables are the caller's, each lent as a slice, here and in
+// the public calls of this crate, as only this has told that both have an entry for each state.
 fn certificate_holds<P: Plant, T: Tariff>(
     plant: &P,
     tariff: &T,

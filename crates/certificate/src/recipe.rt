@@ -70,7 +70,7 @@ fn highest<P: Plant, T: Tariff>(
     )
 }
 
-// Refused by the first test of a value table and a policy that fails.
+// Refused by the first test of a value table and a policy that fails. The tables are lent as to the check.
 fn inputs_hold<P: Plant, T: Tariff>(
     plant: &P,
     tariff: &T,

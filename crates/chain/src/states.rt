@@ -10,13 +10,14 @@ use workorder::MAX_PARTS;
 pub struct ChainState {
     // The age of part i, from 1, is at index i - 1; what lies beyond the chain's parts is ignored, as in its numbers.
     pub ages: [usize; MAX_PARTS],
-    // The failed part, numbered from 1 as the parts are, or 0, which is no part: the state's number is made with it.
-    // The field is public, and an Option would be another type for callers.
+    // The failed part, numbered from 1 as the parts are, or 0, which is no part. An Option would be no plainer: 0 is a term
+    // of the state's number like the others, and would be made of the Option and back at each of the two.
     pub failed: usize,
 }
 
 impl InRange {
-    // How many states there are: each part has its ages, and one or none has failed. A loop for the reason at hazards_when_new.
+    // How many states there are: each part has its ages, and one or none has failed. By a loop: of the product of what `map`
+    // gives, the library does not know that it fits.
     pub(crate) fn state_count(&self) -> usize
         ensures { result ≡ all_states self.now.numbers }
     {
@@ -29,7 +30,7 @@ impl InRange {
 }
 
 impl Chain {
-    // The failed part in a state, or 0.
+    // The failed part in a state, or 0, as it is in the state's number.
     pub(crate) fn failed_in(&self, state: usize) -> usize
         ensures { result ≡ failed_in self.now.numbers state }
     {

@@ -144,7 +144,8 @@ impl ChainReader {
         Ok(())
     }
 
-    // One line: matched by what is due and by its key. A refused line leaves the reader as it was.
+    // One line: matched by what is due and by its key, which is the form of the house for a reader of a plant.
+    // A refused line leaves the reader as it was.
     pub(crate) fn step(&mut self, key: Key, value: &[u8]) -> Result<(), Rule>
         ensures { Took (chain_step self.old key value.now) self.old self.new result }
     {
@@ -169,12 +170,10 @@ impl ChainReader {
     fn rising(&self, arc: Arc) -> bool
         ensures { result ≡ rising self.now arc }
     {
-        // A test answers false here, which `?` does not give.
-        let Some(arcs) = self.arcs.get(..self.arc_count) else {
-            return false;
-        };
-        arcs.last()
-            .is_none_or(|last| (last.from, last.to) < (arc.from, arc.to))
+        self.arcs.get(..self.arc_count).is_some_and(|arcs| {
+            arcs.last()
+                .is_none_or(|last| (last.from, last.to) < (arc.from, arc.to))
+        })
     }
 
     // arc=from,to,cents

@@ -48,7 +48,7 @@ pub fn number(text: &[u8], most: u64) -> Option<u64>
     Some(value)
 }
 
-// `magnitude` behind a minus: none at 0.
+// `magnitude` behind a minus: none at 0. No conversion of types but arithmetic: with TryFrom a number would become its negative.
 fn negate(magnitude: u64) -> Option<i64>
     requires { magnitude ≤ 2 ^ 63 }
     ensures { result ≡ negated (Some magnitude) }

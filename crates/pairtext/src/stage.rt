@@ -26,7 +26,7 @@ pub enum UnitName {
     Two,
 }
 
-// A method for each of its two numbers: From could stand for only one of them.
+// A method for each of its two numbers: as two From, only the type that is wanted would say which of them is meant.
 impl UnitName {
     // Its number in a text.
     pub fn number(self) -> u32

@@ -141,7 +141,8 @@ impl PairReader {
         Ok(())
     }
 
-    // Takes one line by the stage and its key, and moves on; a refused line leaves the reader as it was.
+    // Takes one line by the stage and its key, which is the form of the house for a reader of a plant, and moves on.
+    // A refused line leaves the reader as it was.
     pub(crate) fn step(&mut self, line: Line) -> Result<(), Rule>
         requires { Sound self.old }
         ensures answer { result ≡ answer_of (line_step self.old (said line.entry)) }

@@ -92,7 +92,8 @@ impl<A: Copy> Reader<A> {
         Ok(())
     }
 
-    // Takes the line that is due: its value goes where it belongs, and the next line is due.
+    // Takes the line that is due: its value goes where it belongs, and the next line is due. A match by stage, as each line
+    // fills another field or table and asks for other things: a table of functions would ask each for what all of them take.
     fn take<T: Tariff<Amount = A>>(
         &mut self,
         tariff: &T,

@@ -17,6 +17,7 @@ use lines::reading::{EQUALS_SIGN, LINE_END};
 use lines::writing::write_bytes;
 
 // The tables of a plan, which have the same number of entries, 1 to MOST_STATES, and its claims.
+// The tables are the caller's, each lent as a slice, and so they come to this crate's public calls beside one another.
 #[derive(Drop)]
 struct PlanView<'a, A> {
     values: &'a [A],
@@ -96,7 +97,7 @@ pub fn plan_line<T: Tariff>(
     ensures tight { Tight space.old result }
 {
     let plan = PlanView::new(values, policy, claims)?;
-    // No line past the last is an answer here, Ok(None), which `?` does not give.
+    // No line past the last is an answer here, Ok(None): `map` and `transpose` would put the writing into a closure, which is no plainer.
     let Some(stage) = Stage::at(values.len(), j) else {
         return Ok(None);
     };

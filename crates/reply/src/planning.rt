@@ -10,7 +10,7 @@ use interface::tariff::Tariff;
 use planner::plan::plan;
 use std::alloc::Global;
 
-// Plans in the lent tables, and gives the text of the plan.
+// Plans in the lent tables, and gives the text of the plan. The planner takes each table as a slice, and so does this.
 fn text_of_plan<P: Plant, T: Tariff>(
     heap: Global,
     plant: &P,

@@ -10,7 +10,7 @@ use plantext::stage::LINES_BEFORE_ROWS;
 use plantext::writing::{LINE_ROOM, plan_line};
 use std::alloc::AllocError;
 
-// Puts all lines of a plan behind what stands in `out`.
+// Puts all lines of a plan behind what stands in `out`. Tables and claims are as plan_line takes them.
 pub(crate) fn push_plan<T: Tariff>(
     tariff: &T,
     values: &[T::Amount],
