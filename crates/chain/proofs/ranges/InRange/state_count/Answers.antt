@@ -14,12 +14,6 @@ overflow_mul-lives c =
     let here = life_at n c.parts-part-items.result.now i c.parts-part-items.ensures.value c.parts-part-items.ensures.long c.loop-part-test.true in
     omega (arith, lives_more n i c.loop-part.lives _ c.loop-part.invariant here, lives_few n (i + 1) l.terms (lives_in_range n l) (omega arith))
 
-pub loop-part-preserved : goal.loop-part-preserved
-loop-part-preserved c =
-    let n = c.args.self.now.numbers in
-    let i = c.loop-part.part-index in
-    lives_more n i c.loop-part.lives _ c.loop-part.invariant (life_at n c.parts-part-items.result.now i c.parts-part-items.ensures.value c.parts-part-items.ensures.long c.loop-part-test.true)
-
 all : (c : goal.After-loop-part) → (c.args.self.now.numbers.count + 1) * c.loop-part.lives ≡ (c.args.self.now.numbers.count + 1) * product (life c.args.self.now.numbers) c.args.self.now.numbers.count
 all c =
     let n = c.args.self.now.numbers in
@@ -29,6 +23,3 @@ all c =
 
 pub overflow_mul-result : goal.overflow_mul-result
 overflow_mul-result c = let n = c.args.self.now.numbers in let l = c.args.self.now.lawful in omega (arith, all c, states_fit n l.terms (lives_in_range n l))
-
-pub returns : goal.returns
-returns c = all c
