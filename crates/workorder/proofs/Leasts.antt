@@ -1,8 +1,11 @@
 -- The least of the numbers with a property. Assumes nothing.
-use Rattle.std.proofs.Common.{◌≡◌, ℕ, suc, ◌+◌, ◌*◌, ◌<◌, ◌≤◌, min, ◌⊎◌, Some, None, Option, refl, ap, inl, inr, mul-le-mul_right, arith}
+use Rattle.std.proofs.Common.{◌≡◌, ℕ, suc, ◌+◌, ◌*◌, ◌<◌, ◌≤◌, min, ◌⊎◌, List, [], ◌∷◌, fold, Some, None, Option, refl, ap, ◌∙◌, subst, inl, inr, mul-le-mul_right, arith}
 use Rattle.std.proofs.lemmas.Bool.{cases_lt}
+use Rattle.std.specs.List.{cons_option, filter_map, reduce}
 use Rattle.workorder.specs.Orders.{AtMost, LeastOf}
 use Rattle.workorder.specs.Steps.{lesser, sum}
+use mathlib.Core.List.Memᴰ
+use mathlib.Core.List.{Memᴰ as In}
 use mathlib.Core.HLevel.{Π_prop, ×_prop, ⊥_prop}
 use mathlib.Core.Logic.{∥∥₁_elim, ∥∥₁_map, ∥∥₁_map₂, ∥∥₁_prop}
 use native.Mathlib.Bridge.{le_prop}
@@ -42,14 +45,6 @@ module _ (P : ℕ → Type 0) where
   least_prop None = Π_prop (λ c. Π_prop (λ p. ⊥_prop))
   least_prop (Some c) = ×_prop ∥∥₁_prop (Π_prop (λ d. Π_prop (λ p. le_prop)))
 
-pub lesser_at_most : (m : ℕ) (r s t : Option ℕ) → AtMost m r → AtMost m s → t ≡ lesser r s → AtMost m t
-lesser_at_most m r s t h k e = rw e (both r s h k)
-  where
-    both : (r s : Option ℕ) → AtMost m r → AtMost m s → AtMost m (lesser r s)
-    both None s h k = k
-    both (Some a) None h k = h
-    both (Some a) (Some b) h k = omega arith
-
 -- a sum of two numbers, for a portfolio y and for one part more
 pub sum_at_most : (m x y : ℕ) (r s t : Option ℕ) → y < x → AtMost (y * m) r → AtMost m s → t ≡ sum r s → AtMost (x * m) t
 sum_at_most m x y r s t l h k e = rw e (both r s h k)
@@ -58,3 +53,32 @@ sum_at_most m x y r s t l h k e = rw e (both r s h k)
     both None s h k = tt
     both (Some a) None h k = tt
     both (Some a) (Some b) h k = let g : suc y * m ≤ x * m = mul-le-mul_right m l in omega arith
+
+-- ---- what `filter_map` and `min` pick
+
+min_first : (a b : ℕ) (ys : List ℕ) → fold min (min a b) ys ≡ min a (fold min b ys)
+min_first a b [] = refl
+min_first a b (y ∷ ys) = let e : min (min a b) y ≡ min a (min b y) = omega arith in ap (λ k. fold min k ys) e ∙ min_first a (min b y) ys
+
+lesser_first : (r : Option ℕ) (ys : List ℕ) → reduce min (cons_option r ys) ≡ lesser r (reduce min ys)
+lesser_first None ys = refl
+lesser_first (Some a) [] = refl
+lesser_first (Some a) (b ∷ ys) = ap Some (min_first a b ys)
+
+module _ {A : Type 0} (Q : A → ℕ → Type 0) where
+  -- a number of some item of the list
+  abbrev pub OfSome : List A → ℕ → Type 0
+  OfSome xs c = (x : A) × In x xs × Q x c
+
+  -- where each item's least is known, the least over a list is the least of those
+  pub least_of_list : (least : (x : A) → (r : Option ℕ) × LeastOf (Q x) r) (xs : List A) → LeastOf (OfSome xs) (reduce min (filter_map (λ x. (least x).0) xs))
+  least_of_list least [] = λ c e. Memᴰ.not-nil e.1
+  least_of_list least (x ∷ xs) =
+      rw lesser_first (least_same _ _ join split _ (least_either (Q x) (OfSome xs) _ _ (least x).1 (least_of_list least xs)))
+    where
+      join : (c : ℕ) → Q x c ⊎ OfSome xs c → OfSome (x ∷ xs) c
+      join c (inl q) = (x, In.head refl, q)
+      join c (inr e) = (e.0, In.tail e.1, e.2)
+
+      split : (c : ℕ) → OfSome (x ∷ xs) c → Q x c ⊎ OfSome xs c
+      split c e = elim (Memᴰ.cases_cons e.1) [ inl p ↦ inl (subst (λ y. Q y c) p e.2) | inr m ↦ inr (e.0, m, e.2) ]

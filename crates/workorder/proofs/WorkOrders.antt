@@ -1,10 +1,12 @@
 -- A work order for a portfolio is one for the portfolio without its last part, and an arc to that part. Assumes nothing.
-use Rattle.std.proofs.Common.{◌≡◌, ℕ, suc, ◌+◌, ◌*◌, ◌^◌, ◌<◌, ◌≤◌, ◌≢◌, ◌⊎◌, List, [], ◌∷◌, length, get_or, set, replicate, Some, None, Option, sym, refl, ap, ◌∙◌, subst, inl, inr, mul-le-mul_right, arith, length-set, get_or-set_other, get_or-set_same, below_more}
-use Rattle.std.proofs.lemmas.Bool.{cases_eq, cases_lt}
-use Rattle.workorder.proofs.Leasts.{least_same, least_either, least_prop, least_sum, least_unique}
-use Rattle.workorder.proofs.Portfolios.{holds_without, holds_others, none_in_zero, ones_without, part_within, zero_from_none}
+use Rattle.std.proofs.Common.{◌≡◌, ℕ, ◌+◌, ◌*◌, ◌^◌, ◌<◌, ◌≤◌, ◌≢◌, ◌⊎◌, List, [], ◌∷◌, min, length, get_or, set, replicate, Some, None, Option, sym, refl, ap, ◌∙◌, subst, inl, inr, mul-le-mul_right, arith, length-set, get_or-set_other, get_or-set_same, below_more}
+use Rattle.std.proofs.lemmas.Bool.{cases_eq}
+use Rattle.std.specs.List.{filter_map, reduce}
+use Rattle.workorder.proofs.Arcs.{alone, cheapest, held_or_not}
+use Rattle.workorder.proofs.Leasts.{OfSome, least_same, least_prop, least_sum, least_unique}
+use Rattle.workorder.proofs.Portfolios.{holds_without, holds_others, none_in_zero, ones_without, part_within, without_less, zero_from_none}
 use Rattle.workorder.specs.Orders.{AtMost, Holds, Least, LeastOf, LeastTable, Lists, NoneDearer, OrderFor, WorkOrder, max_parts, nothing, next, portfolios}
-use Rattle.workorder.specs.Steps.{ArcFor, EndsWith, Leads, RightBelow, lesser, sum, without}
+use Rattle.workorder.specs.Steps.{ArcFor, EndsWith, Leads, RightBelow, sum, without}
 use Rattle.workorder.specs.declared.Arc.{Arc}
 use lib.Count.{ones, ones-le}
 use mathlib.Core.List.Memᴰ
@@ -100,30 +102,27 @@ module _ (arcs : List Arc) where
       let m' : LeastOf (ArcFor arcs (without x i) i) s = subst (λ (k : ℕ). LeastOf (ArcFor arcs k i) s) p m in
       rw q (least_same _ _ (λ c e. (held, e)) (λ c e. e.1) (sum r s) (least_sum _ _ r s l' m'))
 
-  -- Some work order for x that ends with a part below n costs c.
-  abbrev pub EndsBelow : ℕ → ℕ → ℕ → Type 0
-  EndsBelow x n c = (i : ℕ) × (i < n) × EndsWith arcs x i c
+  -- there is such a least for each part, where the table is right below x
+  pub ending : (x : ℕ) (table : List (Option ℕ)) → RightBelow arcs x table → (i : ℕ) → (r : Option ℕ) × LeastOf (EndsWith arcs x i) r
+  ending x table right i =
+      elim (held_or_not x i) [
+        | inl h ↦ (
+          sum (get_or table (without x i) None) (reduce min (filter_map (λ a. (alone (without x i) i a).0) arcs)),
+          ends_least x i (without x i) _ _ _ h refl (right.least (without x i) (without_less x i h)) (cheapest (without x i) i arcs) refl,
+        )
+        | inr n ↦ (None, λ c e. n e.0)
+      ]
 
-  -- the least of those is the least of all work orders
-  pub ends_below_all : (n x : ℕ) (r : Option ℕ) → 0 < x → x < 2 ^ n → LeastOf (EndsBelow x (suc n)) r → Least arcs x r
-  ends_below_all n x r p l = least_same (EndsBelow x (suc n)) (OrderFor arcs x) (λ c e. order_joined x e.0 c e.2) split r
+  pub ending_only : (x : ℕ) (table : List (Option ℕ)) (right : RightBelow arcs x table) (i : ℕ) (r : Option ℕ) → LeastOf (EndsWith arcs x i) r → r ≡ (ending x table right i).0
+  ending_only x table right i r l = least_unique (EndsWith arcs x i) r (ending x table right i).0 l (ending x table right i).1
+
+  -- the least over all parts, each of which may come last, is the least of all work orders
+  pub least_of_endings : (n x : ℕ) (parts : List ℕ) (r : Option ℕ) → 0 < x → x < 2 ^ n → ((i : ℕ) → 1 ≤ i → i ≤ n → In i parts)
+      → LeastOf (OfSome (EndsWith arcs x) parts) r → Least arcs x r
+  least_of_endings n x parts r p l all = least_same (OfSome (EndsWith arcs x) parts) (OrderFor arcs x) (λ c e. order_joined x e.0 c e.2) split r
     where
-      split : (c : ℕ) → OrderFor arcs x c → EndsBelow x (suc n) c
-      split c o = elim (order_split x c o) [ inl z ↦ absurd (omega arith) | inr e ↦ (e.0, omega (arith, part_within n x e.0 l e.1.0), e.1) ]
-
-  pub ends_below_none : (x n c : ℕ) → n ≤ 1 → EndsBelow x n c → ⊥
-  ends_below_none x n c l e = omega (arith, e.1, e.2.0.0)
-
-  -- one part more
-  pub ends_below_more : (x n : ℕ) (r s t : Option ℕ) → LeastOf (EndsBelow x n) r → LeastOf (EndsWith arcs x n) s → t ≡ lesser r s → LeastOf (EndsBelow x (n + 1)) t
-  ends_below_more x n r s t l m q = rw q (least_same _ _ join split (lesser r s) (least_either (EndsBelow x n) (EndsWith arcs x n) r s l m))
-    where
-      join : (c : ℕ) → EndsBelow x n c ⊎ EndsWith arcs x n c → EndsBelow x (n + 1) c
-      join c (inl e) = (e.0, omega (arith, e.1), e.2)
-      join c (inr e) = (n, omega arith, e)
-
-      split : (c : ℕ) → EndsBelow x (n + 1) c → EndsBelow x n c ⊎ EndsWith arcs x n c
-      split c e = elim (cases_lt e.0 n) [ inl h ↦ inl (e.0, h, e.2) | inr h ↦ inr (let same : e.0 ≡ n = omega (arith, e.1) in subst (λ (k : ℕ). EndsWith arcs x k c) same e.2) ]
+      split : (c : ℕ) → OrderFor arcs x c → OfSome (EndsWith arcs x) parts c
+      split c o = elim (order_split x c o) [ inl z ↦ absurd (omega arith) | inr e ↦ (e.0, all e.0 e.1.0.0 (part_within n x e.0 l e.1.0), e.1) ]
 
   -- ---- the table of the least cents
 

@@ -8,7 +8,7 @@
 ghost use Rattle.std.specs.Prelude.{◌≡◌, ℕ, ◌*◌, ◌^◌, ◌<◌, [], ◌∷◌, set, replicate, Some, None, Decides, Option, slice_index_or, slice_set};
 ghost use Rattle.workorder.specs.Figures.{Figures, arc as the_arc, circle as the_circle, closed as the_closed, row as the_row};
 ghost use Rattle.workorder.specs.Orders.{AtMost, Holds, Least, LeastOf, LeastTable, NoneDearer, max_parts, portfolios};
-ghost use Rattle.workorder.specs.Steps.{ArcFor, EndsWith, RightBelow, Usable, lesser as the_lesser, sum as the_sum, without as the_rest};
+ghost use Rattle.workorder.specs.Steps.{ArcFor, EndsWith, RightBelow, Usable, sum as the_sum, without as the_rest};
 
 // The largest number of parts.
 pub const MAX_PARTS: usize = 6;
@@ -42,18 +42,6 @@ pub fn holds(portfolio: usize, part: usize) -> bool
     (portfolio >> (part - 1)) % 2 == 1
 }
 
-// The lesser of two numbers, each of which may be absent: one step of both searches below. `filter_map` and `min` would go by
-// functions of an arc and of a part, where the clauses of what is searched are properties (Usable, LeastOf).
-fn lesser(best: Option<u64>, other: Option<u64>) -> Option<u64>
-    ensures { result ≡ the_lesser best other }
-{
-    match (best, other) {
-        (Some(a), Some(b)) => Some(a.min(b)),
-        (Some(_), None) => best,
-        (None, _) => other,
-    }
-}
-
 // The arc's cents, where it leads to the part from the door or from a part of the portfolio done.
 fn usable_cents(arc: Arc, done: usize, part: usize) -> Option<u64>
     ensures cents { Usable done part arc result }
@@ -67,11 +55,9 @@ fn cheapest_arc(arcs: &[Arc], done: usize, part: usize) -> Option<u64>
     ensures least { LeastOf (ArcFor arcs.now done part) result }
     ensures small { AtMost (2 ^ 32) result }
 {
-    let mut best = None;
-    for arc in arcs {
-        best = lesser(best, usable_cents(*arc, done, part));
-    }
-    best
+    arcs.iter()
+        .filter_map(|arc| usable_cents(*arc, done, part))
+        .min()
 }
 
 // The portfolio without a part that it holds.
@@ -117,11 +103,9 @@ fn least_for(arcs: &[Arc], table: &[Option<u64>; PORTFOLIOS], portfolio: usize) 
     ensures least { Least arcs.now portfolio result }
     ensures small { AtMost (portfolio * 2 ^ 32) result }
 {
-    let mut best = None;
-    for part in 1..=MAX_PARTS {
-        best = lesser(best, ending_with(arcs, table, portfolio, part));
-    }
-    best
+    (1..=MAX_PARTS)
+        .filter_map(|part| ending_with(arcs, table, portfolio, part))
+        .min()
 }
 
 // The table to begin with: the portfolio of no parts costs nothing, and no other is known.

@@ -1,18 +1,15 @@
-use Rattle.std.proofs.Common.{◌^◌}
-use Rattle.std.proofs.lemmas.List.{take_all}
-use Rattle.workorder.proofs.Arcs.{cheapest_more}
-use Rattle.workorder.proofs.Leasts.{lesser_at_most}
+use Rattle.std.proofs.Common.{◌≡◌, min, sym, ◌∙◌, rules, tests}
+use Rattle.std.proofs.lemmas.Iterator.{YieldsList-from_slice}
+use Rattle.std.proofs.lemmas.Iterator.Adapters.{option_map_id}
+use Rattle.std.proofs.lemmas.Iterator.Consumers.{YieldsList-from_filter_map, min_from_yields_List}
+use Rattle.std.specs.List.{filter_map, reduce}
+use Rattle.workorder.proofs.Arcs.{alone, cheapest, usable_alone}
 use Rattle.workorder.proofs.cheapest_arc.Goals as goal
 
-pub loop-arc-preserved : goal.loop-arc-preserved
-loop-arc-preserved c = (
-  cheapest_more c.args.done c.args.part c.args.arcs.now c.loop-arc.arc-index (record { from = 0; to = 0; cents = 0 }) c.loop-arc.best
-      c.usable_cents.result c.lesser-best.result c.loop-arc-test.true c.loop-arc.invariant.0 c.usable_cents.ensures.cents c.lesser-best.ensures,
-  lesser_at_most (2 ^ 32) c.loop-arc.best c.usable_cents.result c.lesser-best.result c.loop-arc.invariant.1 c.usable_cents.ensures.small
-      c.lesser-best.ensures,
-)
+picked : (c : goal.After-min) → c.min.result ≡ reduce min (filter_map (λ a. (alone c.args.done c.args.part a).0) c.args.arcs.now)
+picked c =
+    sym (option_map_id _) ∙ min_from_yields_List _ _ c.min.ensures.ran
+    (YieldsList-from_filter_map _ _ (YieldsList-from_slice c.args.arcs.now cc) c.filter_map.ensures.closure (λ x r q k. search (rules, tests, usable_alone)))
 
-pub returns : goal.returns
-returns c =
-    let all = take_all c.loop-arc.arc-index c.args.arcs.now c.loop-arc-test.false in
-    record { least = rw all at c.loop-arc.invariant.0; small = c.loop-arc.invariant.1 }
+pub returns-clause-least : goal.returns-clause-least
+returns-clause-least c = rw (picked c) (cheapest c.args.done c.args.part c.args.arcs.now)

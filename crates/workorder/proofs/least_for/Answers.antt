@@ -1,21 +1,26 @@
-use Rattle.std.proofs.Common.{◌≡◌, ◌+◌, ◌*◌, ◌^◌, arith}
-use Rattle.workorder.proofs.Leasts.{lesser_at_most}
-use Rattle.workorder.proofs.WorkOrders.{ends_below_all, ends_below_more}
+use Rattle.std.proofs.Common.{◌≡◌, min, sym, ◌∙◌, rules, tests}
+use Rattle.std.proofs.lemmas.Iterator.Adapters.{option_map_id}
+use Rattle.std.proofs.lemmas.Iterator.Consumers.{YieldsList-at, YieldsList-from_filter_map, min_from_yields_List}
+use Rattle.std.specs.List.{filter_map, reduce}
+use Rattle.workorder.proofs.Leasts.{least_of_list}
+use Rattle.workorder.proofs.Parts.{from_to, given, in_from_to}
+use Rattle.workorder.proofs.WorkOrders.{ending, ending_only, least_of_endings}
 use Rattle.workorder.proofs.least_for.Goals as goal
 use Rattle.workorder.specs.Orders.{max_parts}
+use Rattle.workorder.specs.Steps.{EndsWith}
 
-pub loop-part-preserved : goal.loop-part-preserved
-loop-part-preserved c = (
-  ends_below_more c.args.arcs.now c.args.portfolio c.loop-part.part c.loop-part.best c.ending_with.result c.lesser-best.result
-      c.loop-part.invariant.0 c.ending_with.ensures.least c.lesser-best.ensures,
-  lesser_at_most (c.args.portfolio * 2 ^ 32) c.loop-part.best c.ending_with.result c.lesser-best.result
-      c.loop-part.invariant.1 c.ending_with.ensures.small c.lesser-best.ensures,
-)
+picked : (c : goal.After-min) → c.min.result ≡ reduce min (filter_map (λ i. (ending c.args.arcs.now c.args.portfolio c.args.table.now c.requires.right i).0) (from_to 1 max_parts))
+picked c =
+    let only = ending_only c.args.arcs.now c.args.portfolio c.args.table.now c.requires.right in
+    let parts = given 1 max_parts c.new.ensures.start c.new.ensures.end c.new.ensures.exhausted in
+    sym (option_map_id _) ∙ min_from_yields_List _ _ c.min.ensures.ran
+    (YieldsList-from_filter_map _ (λ i. (ending c.args.arcs.now c.args.portfolio c.args.table.now c.requires.right i).0) (YieldsList-at c.filter_map.ensures.source parts) c.filter_map.ensures.closure (λ x r q k. search (rules, tests, only)))
 
-pub returns : goal.returns
-returns c =
-    let end : c.loop-part.part ≡ max_parts + 1 = omega arith in
-    record {
-      least = ends_below_all c.args.arcs.now max_parts c.args.portfolio c.loop-part.best (omega arith) (omega arith) (rw end at c.loop-part.invariant.0);
-      small = c.loop-part.invariant.1;
-    }
+pub returns-clause-least : goal.returns-clause-least
+returns-clause-least c =
+    let arcs = c.args.arcs.now in
+    let x = c.args.portfolio in
+    let least = ending arcs x c.args.table.now c.requires.right in
+    rw (picked c)
+    (least_of_endings arcs max_parts x (from_to 1 max_parts) _ c.requires.in_range.0 c.requires.in_range.1 (in_from_to 1 max_parts)
+    (least_of_list (EndsWith arcs x) least (from_to 1 max_parts)))
