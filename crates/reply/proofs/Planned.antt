@@ -1,5 +1,5 @@
 -- What the planner answers, as the reply to a request.
-use Rattle.std.proofs.Common.{◌≡◌, ℕ, ◌≤◌, List, map, Ok, Err, Result, MatchResult, sym, refl, ◌∙◌, subst, arith}
+use Rattle.std.proofs.Common.{◌≡◌, ℕ, List, map, Ok, Err, Result, MatchResult, subst}
 use Rattle.std.specs.Result.{IsErrAnd}
 use Rattle.interface.specs.Plants.{Model}
 use Rattle.interface.specs.Rows.{Row}
@@ -7,26 +7,10 @@ use Rattle.interface.specs.Tariffs.{Scale}
 use Rattle.interface.specs.declared.claims.Claims.{Claims}
 use Rattle.certificate.specs.Recipes.{Lowest, Highest}
 use Rattle.planner.specs.declared.refusal.Refusal.{Refusal as PlannerRefusal}
-use Rattle.planner.specs.declared.refusal.Refusal.TheVariants as planner
-use Rattle.planner.specs.Answers.{Tables, Level, Answer}
-use Rattle.planner.specs.Sweeps.{most_sweeps}
+use Rattle.planner.specs.Answers.{Tables, Answer}
 use Rattle.plantext.specs.Lines.{plan_text}
-use Rattle.request.specs.declared.sweeps.SweepsLine.{SweepsLine}
 use Rattle.reply.specs.declared.answer.Refusal.{Refusal}
-use Rattle.reply.specs.declared.answer.Refusal.TheVariants.{BeyondReach}
 use Rattle.reply.specs.Plans.{plan_of, PlanFor}
-use Rattle.reply.specs.Replies.{NoPlan}
-
--- where the tables are level and the sweeps few, no plan is refused but for its reach
-pub no_plan : {A : Type 0} {Q : PlannerRefusal → Refusal → Type 0} (row : A → Row) (m : Model) (t : Scale) (s : SweepsLine) (b b' : Tables A) (planned : Result (Claims A) PlannerRefusal) (r : Result (Claims A) Refusal) (e : Refusal) → r ≡ Err e → s.count ≤ most_sweeps → Level m b → Answer row m t s.count b b' planned → MatchResult planned (λ x. r ≡ Ok x) (λ y. IsErrAnd r (Q y)) → ((y : PlannerRefusal) (e : Refusal) → Q y e → e ≡ BeyondReach s.line) → NoPlan m t s e
-no_plan row m t s b b' (Ok x) r e is few even h j told = cc
-no_plan row m t s b b' (Err y) (Ok z) e is few even h j told = absurd j
-no_plan row m t s b b' (Err planner.TooManySweeps) (Err z) e is few even h j told = absurd (omega (arith, h.0, few))
-no_plan row m t s b b' (Err planner.WrongLength) (Err z) e is few even h j told = absurd (h.1 even)
-no_plan row m t s b b' (Err (planner.BeyondReach state)) (Err z) e is few even h j told =
-    let halted = h.2 in
-    let same : z ≡ e = cc in
-    subst (NoPlan m t s) (sym (told (planner.BeyondReach state) z j) ∙ same) (refl, (state, record { whole = halted.whole; fewer = halted.fewer; values = map row b'.values; swept = halted.swept; stuck = halted.stuck }))
 
 -- the text of a plan that was made
 pub plan_for : {A : Type 0} (Q : PlannerRefusal → Refusal → Type 0) (row : A → Row) (m : Model) (t : Scale) (n : ℕ) (b b' : Tables A) (planned : Result (Claims A) PlannerRefusal) (r : Result (Claims A) Refusal) (c : Claims A) (text : List ℕ) → r ≡ Ok c → Answer row m t n b b' planned → MatchResult planned (λ x. r ≡ Ok x) (λ y. IsErrAnd r (Q y)) → text ≡ plan_text (plan_of row b'.values b'.policy c) → PlanFor m t n text
