@@ -1,10 +1,15 @@
--- Rows place by place, for loops that write one place after another.
-use Rattle.std.proofs.Common.{◌≡◌, ℕ, zero, suc, ◌+◌, ◌<◌, ◌≤◌, max, [], ◌∷◌, ◌++◌, length, get_or, take, drop, set, pos, ◌+ℤ◌, ◌-ℤ◌, ◌*ℤ◌, nat_abs, refl, ap, arith, add-one, append-nil, ℤ}
+-- Rows place by place, for loops that write one place after another and for arrays made place by place.
+use Rattle.std.proofs.Common.{◌≡◌, ℕ, zero, suc, ◌+◌, ◌<◌, ◌≤◌, max, [], ◌∷◌, ◌++◌, length, get_or, take, drop, set, pos, ◌+ℤ◌, ◌-ℤ◌, ◌*ℤ◌, nat_abs, true, refl, ap, subst, ◌∙◌, ◌⊎◌, inl, inr, arith, add-one, append-nil, ℤ}
 use Rattle.std.specs.List.{fold}
-use Rattle.std.proofs.lemmas.List.{take_all, drop_all}
+use Rattle.std.proofs.lemmas.Bool.{leb-true}
+use Rattle.std.proofs.lemmas.List.{take_all, drop_all, same_lists, get_or_default}
+use Rattle.std.proofs.Math.Nat.{eq-or-lt_of_le}
+use Rattle.std.specs.Fn.{Called, Mut}
+use Rattle.std.specs.Array.{IsFromFnResult, IsFromFnResultFrom}
 use Rattle.std.specs.Int.{int_div_euclid}
-use Rattle.interface.specs.Limits.{whole}
+use Rattle.interface.specs.Limits.{whole, most_reach}
 use Rattle.interface.specs.Rows.{Row, plus, minus, times, share, reach}
+use Rattle.interface.specs.Tariffs.{summable}
 
 pub reach_at : (u : Row) (k : ℕ) → nat_abs (get_or u k (pos 0)) ≤ reach u
 reach_at [] k = omega arith
@@ -80,6 +85,26 @@ one_more p u r i v e l h w = rw (h, w, add-one) (more p u i e l)
 
 pub all_places : (p u r : Row) (i : ℕ) → length p ≡ length u → length u ≤ i → r ≡ take i p ++ drop i u → r ≡ p
 all_places p u r i e l h = rw (h, take_all i p (omega arith), drop_all i u l, append-nil)
+
+-- Places of two rows that may be added or subtracted are together within the limit.
+pub together : (u v : Row) → summable u v ≡ true → (k : ℕ) → nat_abs (get_or u k (pos 0)) + nat_abs (get_or v k (pos 0)) ≤ most_reach
+together u v s k = let few = leb-true _ _ s in omega (arith, reach_at u k, reach_at v k)
+
+-- What from_fn makes of a closure that gives each place of a row, and keeps what it captured, is the row.
+module _ {F : Type 0} (g : Mut F (ℕ × Unit {0}) ℤ) (f : F) (p r : Row) (each : (i : ℕ) (y : ℤ) (q : F) → i < length p → Called g f (i, tt) y q → (y ≡ get_or p i (pos 0)) × (q ≡ f)) where
+  made_at : (i n : ℕ) → i + n ≤ length p → IsFromFnResultFrom g f r i n → (k : ℕ) (d : ℤ) → i ≤ k → k < i + n → get_or r k d ≡ get_or p k (pos 0)
+  made_at i zero b h k d l m = absurd (omega arith)
+  made_at i (suc n) b (q, y, is, called, rest) k d l m =
+      let gives = each i y q (omega arith) called in
+      by (is.1 d ∙ gives.0) (λ o. made_at (i + 1) n (omega arith) (subst (λ (t : F). IsFromFnResultFrom g t r (i + 1) n) gives.1 rest) k d (omega (arith, o)) (omega arith)) (eq-or-lt_of_le l)
+    where
+      by : get_or r i d ≡ get_or p i (pos 0) → (i < k → get_or r k d ≡ get_or p k (pos 0)) → (i ≡ k) ⊎ (i < k) → get_or r k d ≡ get_or p k (pos 0)
+      by here later (inl e) = subst (λ (j : ℕ). get_or r j d ≡ get_or p j (pos 0)) e here
+      by here later (inr o) = later o
+
+pub row_made : {F : Type 0} {g : Mut F (ℕ × Unit {0}) ℤ} {f : F} {r : Row} {n : ℕ} (p : Row) → IsFromFnResult g f r n → length p ≡ n
+    → ((i : ℕ) (y : ℤ) (q : F) → i < length p → Called g f (i, tt) y q → (y ≡ get_or p i (pos 0)) × (q ≡ f)) → r ≡ p
+row_made {g = g} {f = f} {r = r} {n = n} p h e each = same_lists r p (omega (arith, h.long)) (λ k d l. made_at g f p r each 0 n (omega (arith, e)) h.each k d (omega arith) (omega (arith, h.long)) ∙ get_or_default p k (pos 0) d (omega (arith, h.long)))
 
 most_so_far : (u : Row) (m : ℕ) → fold (λ m x. max m (nat_abs x)) m u ≡ max m (reach u)
 most_so_far [] m = omega arith

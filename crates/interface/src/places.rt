@@ -6,6 +6,7 @@ ghost use Rattle.interface.specs.Rows.{plus, minus, times, share, reach};
 ghost use Rattle.interface.specs.Tariffs.{Answers, summable, multipliable};
 
 use crate::limits::{MOST_FACTOR, MOST_REACH, WHOLE};
+use std::array;
 
 // Whether amounts of these reaches may be added or subtracted.
 pub fn sum_within(a: u64, b: u64) -> bool
@@ -32,29 +33,26 @@ pub fn reach<const N: usize>(a: [i64; N]) -> u64
 
 // The sum of two amounts, absent exactly when their reaches together exceed MOST_REACH.
 // It and the difference are the same but for the operator: one function that is lent the operator is no plainer.
-pub fn sum<const N: usize>(mut a: [i64; N], b: [i64; N]) -> Option<[i64; N]>
+pub fn sum<const N: usize>(a: [i64; N], b: [i64; N]) -> Option<[i64; N]>
     ensures { Answers (λ u. u) result (summable a.entry b.entry) (plus a.entry b.entry) }
 {
     if !sum_within(reach(a), reach(b)) {
         return None;
     }
-    for (i, place) in a.iter_mut().enumerate() {
-        *place += b[i];
-    }
-    Some(a)
+    // As slices: over captured arrays of N places the check does not find what the closure answers.
+    let (a, b) = (a.as_slice(), b.as_slice());
+    Some(array::from_fn(|i| a[i] + b[i]))
 }
 
 // The difference of two amounts, absent as their sum is.
-pub fn difference<const N: usize>(mut a: [i64; N], b: [i64; N]) -> Option<[i64; N]>
+pub fn difference<const N: usize>(a: [i64; N], b: [i64; N]) -> Option<[i64; N]>
     ensures { Answers (λ u. u) result (summable a.entry b.entry) (minus a.entry b.entry) }
 {
     if !sum_within(reach(a), reach(b)) {
         return None;
     }
-    for (i, place) in a.iter_mut().enumerate() {
-        *place -= b[i];
-    }
-    Some(a)
+    let (a, b) = (a.as_slice(), b.as_slice());
+    Some(array::from_fn(|i| a[i] - b[i]))
 }
 
 // A multiple of a place, absent exactly when it would exceed MOST_REACH.

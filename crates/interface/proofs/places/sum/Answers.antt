@@ -1,30 +1,24 @@
-use Rattle.std.proofs.Common.{◌≡◌, length, arith, rules}
-use Rattle.std.proofs.lemmas.Int.{ints}
+use Rattle.std.proofs.Common.{◌≡◌, true, length, arith, rules}
 use Rattle.std.proofs.lemmas.Bool.Decides.{nat_tests}
+use Rattle.std.proofs.lemmas.Int.{ints, to_z-of_z}
+use Rattle.std.proofs.iter.Serving.{serving}
 use Rattle.interface.specs.Rows.{plus}
-use Rattle.interface.proofs.ByPlaces.{reach_at, plus_at, length-plus, next_place, one_more, all_places}
+use Rattle.interface.specs.Tariffs.{summable}
+use Rattle.interface.proofs.ByPlaces.{plus_at, length-plus, together, row_made}
 use Rattle.interface.proofs.places.sum.Goals as goal
 
-pub overflow_add-place : goal.overflow_add-place
-overflow_add-place g c =
-    let a_long : length c.args.a ≡ g.row.N = search rules in
-    let b_long : length c.args.b ≡ g.row.N = search rules in
-    let long = length-plus c.args.a c.args.b (omega arith) in
-    let here = next_place (plus c.args.a c.args.b) c.args.a c.loop-i.place-items c.loop-i.i long c.loop-i.invariant in
-    grind (arith, ints, nat_tests, reach_at c.args.a c.loop-i.i, reach_at c.args.b c.loop-i.i)
-
-pub loop-i-preserved : goal.loop-i-preserved
-loop-i-preserved g c =
-    let a_long : length c.args.a ≡ g.row.N = search rules in
-    let b_long : length c.args.b ≡ g.row.N = search rules in
-    let long = length-plus c.args.a c.args.b (omega arith) in
-    let here = next_place (plus c.args.a c.args.b) c.args.a c.loop-i.place-items c.loop-i.i long c.loop-i.invariant in
-    let there = plus_at c.args.a c.args.b c.loop-i.i (omega arith) in
-    one_more (plus c.args.a c.args.b) c.args.a c.loop-i.place-items c.loop-i.i _ long (omega arith) c.loop-i.invariant (grind (arith, ints, nat_tests, reach_at c.args.a c.loop-i.i, reach_at c.args.b c.loop-i.i))
+pub from_fn-requires : goal.from_fn-requires
+from_fn-requires g c = grind (serving, ints, together c.args.a c.args.b (grind (arith, nat_tests)))
 
 pub returns : goal.returns
 returns g c =
     let a_long : length c.args.a ≡ g.row.N = search rules in
     let b_long : length c.args.b ≡ g.row.N = search rules in
     let long = length-plus c.args.a c.args.b (omega arith) in
-    (grind (arith, nat_tests), all_places (plus c.args.a c.args.b) c.args.a c.loop-i.place-items c.loop-i.i long (omega arith) c.loop-i.invariant)
+    let within : summable c.args.a c.args.b ≡ true = grind (arith, nat_tests) in (
+      within,
+      row_made (plus c.args.a c.args.b) c.from_fn.ensures.items (omega arith) (λ i y q l k.
+          let at = plus_at c.args.a c.args.b i (omega arith) in
+          let few = together c.args.a c.args.b within i in
+          search (rules, ints, to_z-of_z)),
+    )

@@ -1,6 +1,0 @@
-use Rattle.std.proofs.Common.{◌≡◌, ◌++◌, take, drop}
-use Rattle.interface.specs.Rows.{minus}
-use Rattle.interface.proofs.places.difference.Given as goal
-
-abbrev pub invariant-loop-i : goal.invariant-loop-i
-invariant-loop-i g l = l.place-items ≡ take l.i (minus l.fn.a l.b) ++ drop l.i l.fn.a
