@@ -1,8 +1,8 @@
 -- The least of the numbers with a property. Assumes nothing.
-use Rattle.std.proofs.Common.{◌≡◌, ℕ, suc, ◌+◌, ◌*◌, ◌<◌, ◌≤◌, min, ◌⊎◌, List, [], ◌∷◌, fold, Some, None, Option, refl, ap, ◌∙◌, subst, inl, inr, mul-le-mul_right, arith}
+use Rattle.std.proofs.Common.{◌≡◌, ℕ, ◌+◌, ◌<◌, ◌≤◌, min, ◌⊎◌, List, [], ◌∷◌, fold, Some, None, Option, refl, ap, ◌∙◌, subst, inl, inr, arith}
 use Rattle.std.proofs.lemmas.Bool.{cases_lt}
 use Rattle.std.specs.List.{cons_option, filter_map, reduce}
-use Rattle.workorder.specs.Orders.{AtMost, LeastOf}
+use Rattle.workorder.specs.Orders.{LeastOf}
 use Rattle.workorder.specs.Steps.{lesser, sum}
 use mathlib.Core.List.Memᴰ
 use mathlib.Core.List.{Memᴰ as In}
@@ -44,15 +44,6 @@ module _ (P : ℕ → Type 0) where
   pub least_prop : (r : Option ℕ) → IsProp (LeastOf P r)
   least_prop None = Π_prop (λ c. Π_prop (λ p. ⊥_prop))
   least_prop (Some c) = ×_prop ∥∥₁_prop (Π_prop (λ d. Π_prop (λ p. le_prop)))
-
--- a sum of two numbers, for a portfolio y and for one part more
-pub sum_at_most : (m x y : ℕ) (r s t : Option ℕ) → y < x → AtMost (y * m) r → AtMost m s → t ≡ sum r s → AtMost (x * m) t
-sum_at_most m x y r s t l h k e = rw e (both r s h k)
-  where
-    both : (r s : Option ℕ) → AtMost (y * m) r → AtMost m s → AtMost (x * m) (sum r s)
-    both None s h k = tt
-    both (Some a) None h k = tt
-    both (Some a) (Some b) h k = let g : suc y * m ≤ x * m = mul-le-mul_right m l in omega arith
 
 -- ---- what `filter_map` and `min` pick
 

@@ -1,5 +1,5 @@
 -- A work order for a portfolio is one for the portfolio without its last part, and an arc to that part. Assumes nothing.
-use Rattle.std.proofs.Common.{◌≡◌, ℕ, ◌+◌, ◌*◌, ◌^◌, ◌<◌, ◌≤◌, ◌≢◌, ◌⊎◌, List, [], ◌∷◌, min, length, get_or, set, replicate, Some, None, Option, sym, refl, ap, ◌∙◌, subst, inl, inr, mul-le-mul_right, arith, length-set, get_or-set_other, get_or-set_same, below_more}
+use Rattle.std.proofs.Common.{◌≡◌, ℕ, ◌+◌, ◌*◌, ◌^◌, ◌<◌, ◌≤◌, ◌⊎◌, List, [], ◌∷◌, min, length, get_or, set, replicate, Some, None, Option, sym, refl, ap, ◌∙◌, subst, inl, inr, mul-le-mul_right, arith}
 use Rattle.std.proofs.lemmas.Bool.{cases_eq}
 use Rattle.std.specs.List.{filter_map, reduce}
 use Rattle.workorder.proofs.Arcs.{alone, cheapest, held_or_not}
@@ -138,19 +138,6 @@ module _ (arcs : List Arc) where
 
       at_small : (y : ℕ) → y < 1 → AtMost (y * 2 ^ 32) (get_or table y None)
       at_small y l = rw (first y l).1 (omega arith)
-
-  -- one portfolio more
-  pub right_more : (x : ℕ) (table : List (Option ℕ)) (r : Option ℕ) → x < portfolios → RightBelow arcs x table → Least arcs x r → AtMost (x * 2 ^ 32) r → RightBelow arcs (x + 1) (set table x r)
-  right_more x table r l right least small = record { long = rw length-set right.long; least = at_least; small = at_small }
-    where
-      here : get_or (set table x r) x None ≡ r
-      here = let p : x < length table = omega (arith, right.long) in rw get_or-set_same
-
-      at_least : (y : ℕ) → y < x + 1 → Least arcs y (get_or (set table x r) y None)
-      at_least = below_more (λ y. Least arcs y (get_or (set table x r) y None)) x (λ y h. let d : y ≢ x = omega arith in rw get_or-set_other (right.least y h)) (rw here least)
-
-      at_small : (y : ℕ) → y < x + 1 → AtMost (y * 2 ^ 32) (get_or (set table x r) y None)
-      at_small = below_more (λ y. AtMost (y * 2 ^ 32) (get_or (set table x r) y None)) x (λ y h. let d : y ≢ x = omega arith in rw get_or-set_other (right.small y h)) (rw here small)
 
   -- every least number of a portfolio is the table's
   pub table_only : (table : List (Option ℕ)) → LeastTable arcs table → (x : ℕ) (r : Option ℕ) → x < portfolios → Least arcs x r → r ≡ get_or table x None
