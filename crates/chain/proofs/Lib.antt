@@ -1,4 +1,5 @@
 pub mod Dearest
+pub mod Folds
 pub mod Places
 pub mod Counting
 pub mod Turns

@@ -34,15 +34,14 @@ impl ChainNumbers {
 }
 
 impl InRange {
-    // The hazards of all parts together when all are new. A loop: for `map` and `sum` the library shows that they stay in range by
-    // a bound on what the closure gives for any part, and only the parts of a chain have one.
+    // The hazards of all parts together when all are new.
     pub(crate) fn hazards_when_new(&self) -> u32
         ensures { result ≡ hazards_at self.now.numbers (λ _. 0) }
     {
-        let mut total = 0;
-        for part in self.numbers.parts() {
-            total += part.hazards[0];
-        }
-        total
+        self.numbers
+            .parts()
+            .iter()
+            .map(|part| part.hazards[0])
+            .sum()
     }
 }

@@ -16,15 +16,16 @@ pub struct ChainState {
 }
 
 impl InRange {
-    // How many states there are: each part has its ages, and one or none has failed. By a loop: of the product of what `map`
-    // gives, the library does not know that it fits.
+    // How many states there are: each part has its ages, and one or none has failed.
     pub(crate) fn state_count(&self) -> usize
         ensures { result ≡ all_states self.now.numbers }
     {
-        let mut lives = 1;
-        for part in self.numbers.parts() {
-            lives *= part.life;
-        }
+        let lives = self
+            .numbers
+            .parts()
+            .iter()
+            .map(|part| part.life)
+            .product::<usize>();
         (self.numbers.count + 1) * lives
     }
 }
