@@ -14,11 +14,13 @@ pub trait Tariff {
     // The number of places of an amount.
     const PLACES: usize;
 
+    ghost PLACES: { ℕ };
+
     ghost scale: { Self → Scale };
 
     ghost row: { Self.Amount → Row };
 
-    // PLACES, as a contract can speak of it.
+    // PLACES, for who has a tariff at hand.
     fn place_count(&self) -> usize
         ensures { result ≡ (scale self.now).places };
 
@@ -59,6 +61,8 @@ pub trait Tariff {
         ensures { Answers row result (nat_lt i (scale self.now).places) (slice_set (row a) i value) };
 
     ghost lawful: { (t : Self) → LawfulScale (scale t) };
+
+    ghost places: { (t : Self) → (scale t).places ≡ PLACES };
 
     ghost fits: { (t : Self) (a : Self.Amount) → length (row a) ≡ (scale t).places };
 }

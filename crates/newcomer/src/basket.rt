@@ -59,6 +59,8 @@ impl Tariff for ByBasket {
 
     const PLACES: usize = 3;
 
+    ghost PLACES = { 3 };
+
     ghost scale = { λ _. basket_scale };
 
     ghost row = { λ a. a.seconds ∷ a.cents ∷ a.fees ∷ [] };
@@ -76,6 +78,8 @@ impl Tariff for ByBasket {
           cent_counts = refl;
           second_counts = refl;
         } };
+
+    ghost places = { λ _. refl };
 
     ghost fits = { Prim.search rules };
 

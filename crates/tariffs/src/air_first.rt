@@ -46,6 +46,8 @@ impl Tariff for AirFirst {
 
     const PLACES: usize = 2;
 
+    ghost PLACES = { 2 };
+
     ghost scale = { λ _. air_first_scale };
 
     ghost row = { λ a. a.dark ∷ a.cost ∷ [] };
@@ -63,6 +65,8 @@ impl Tariff for AirFirst {
           cent_counts = refl;
           second_counts = refl;
         } };
+
+    ghost places = { λ _. refl };
 
     ghost fits = { Prim.search rules };
 

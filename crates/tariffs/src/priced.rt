@@ -65,6 +65,8 @@ impl Tariff for Priced {
 
     const PLACES: usize = 1;
 
+    ghost PLACES = { 1 };
+
     ghost scale = { λ p. priced_scale p.rate };
 
     ghost row = { λ a. a.thousandths ∷ [] };
@@ -84,6 +86,8 @@ impl Tariff for Priced {
           cent_counts = refl;
           second_counts = Prim.grind (arith, nat_tests);
         } };
+
+    ghost places = { λ _. refl };
 
     ghost fits = { first_of (Prim.search rules, Prim.grind (arith, Self.row.coded.inj)) };
 
