@@ -1,5 +1,5 @@
 -- How far rows reach, and that no step of a look-ahead or a gain is absent under a table within reach.
-use Rattle.std.proofs.Common.{◌≡◌, ℕ, zero, suc, ◌+◌, ◌*◌, ◌<◌, ◌≤◌, max, Bool, true, false, cond, List, [], ◌∷◌, map, length, get_or, ℤ, pos, negsuc, ◌+ℤ◌, ◌-ℤ◌, ◌*ℤ◌, neg_ℤ, nat_abs, Some, None, Option, sym, refl, ap, ◌∙◌, subst, arith}
+use Rattle.std.proofs.Common.{◌≡◌, ℕ, zero, suc, ◌+◌, ◌*◌, ◌<◌, ◌≤◌, max, Bool, true, false, cond, List, [], ◌∷◌, map, length, get_or, ℤ, pos, negsuc, ◌+ℤ◌, ◌*ℤ◌, neg_ℤ, nat_abs, Some, None, Option, sym, refl, ap, ◌∙◌, subst, arith}
 use lib.IntN.{+ℤ_assoc, +ℤ_idr}
 use Rattle.std.proofs.lemmas.Nat.{mul-le}
 use Rattle.std.proofs.lemmas.Int.{ints}
@@ -18,9 +18,6 @@ use Rattle.lookahead.specs.Steps.{then, summed, lessened, multiplied, priced, ad
 abs_plus : (x y : ℤ) → nat_abs (x +ℤ y) ≤ nat_abs x + nat_abs y
 abs_plus x y = omega (arith, ints)
 
-abs_minus : (x y : ℤ) → nat_abs (x -ℤ y) ≤ nat_abs x + nat_abs y
-abs_minus x y = omega (arith, ints)
-
 abs_neg : (n : ℕ) → nat_abs (neg_ℤ (pos n)) ≡ n
 abs_neg zero = refl
 abs_neg (suc n) = refl
@@ -33,11 +30,6 @@ pub reach_plus : (u v : Row) → reach (plus u v) ≤ reach u + reach v
 reach_plus [] v = omega arith
 reach_plus (x ∷ u) [] = omega arith
 reach_plus (x ∷ u) (y ∷ v) = omega (arith, abs_plus x y, reach_plus u v)
-
-pub reach_minus : (u v : Row) → reach (minus u v) ≤ reach u + reach v
-reach_minus [] v = omega arith
-reach_minus (x ∷ u) [] = omega arith
-reach_minus (x ∷ u) (y ∷ v) = omega (arith, abs_minus x y, reach_minus u v)
 
 pub reach_times : (n : ℕ) (u : Row) → reach (times n u) ≤ n * reach u
 reach_times n [] = omega arith

@@ -1,5 +1,5 @@
 -- The first best keeps its law, for any test that is total and transitive on the rows at hand.
-use Rattle.std.proofs.Common.{◌≡◌, ℕ, zero, suc, ◌<◌, Bool, true, false, cond, ◌⊎◌, Some, None, Option, sym, refl, ap, ◌∙◌, subst, ⊎_elim, arith}
+use Rattle.std.proofs.Common.{◌≡◌, ℕ, zero, suc, ◌<◌, Bool, true, false, cond, ◌⊎◌, Some, None, Option, sym, refl, subst, ⊎_elim, arith}
 use Rattle.std.proofs.lemmas.Bool.{cases_eq, cases_Bool, both_ways}
 use Rattle.interface.specs.Rows.{Row}
 use Rattle.lookahead.specs.Best.{Pick, better, first_best, FirstBest}
@@ -66,10 +66,3 @@ module _ (good : Row → Row → Bool) (Ok : Row → Type 0)
   pub first_best_law : (n : ℕ) → FirstBest good f n (first_best good f n)
   first_best_law zero = λ k l. absurd (omega arith)
   first_best_law (suc n) = step n (first_best good f n) (f n) refl (first_best_law n)
-
--- equal questions have equal answers
-pub first_best_same : (good : Row → Row → Bool) (f g : ℕ → Option Row) (n : ℕ) → ((k : ℕ) → k < n → f k ≡ g k) → first_best good f n ≡ first_best good g n
-first_best_same good f g zero h = refl
-first_best_same good f g (suc n) h =
-    ap (λ z. better good z n (f n)) (first_best_same good f g n (λ k l. h k (omega arith)))
-    ∙ ap (better good (first_best good g n) n) (h n (omega arith))

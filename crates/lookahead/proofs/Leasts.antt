@@ -1,18 +1,15 @@
 -- The least look-ahead and the least gain of a state, under a table within reach.
-use Rattle.std.proofs.Common.{◌≡◌, ℕ, ◌+◌, ◌<◌, Bool, true, false, cond, List, [], ◌∷◌, length, Some, None, Option, sym, refl, ◌∙◌, subst, add-one, arith}
+use Rattle.std.proofs.Common.{◌≡◌, ℕ, ◌<◌, Bool, true, false, cond, List, [], ◌∷◌, length, Some, None, sym, refl, ◌∙◌, subst, arith}
 use Rattle.std.proofs.lemmas.List.{length-replicate}
 use Rattle.interface.specs.declared.plant.Outcome.{Outcome}
 use Rattle.interface.specs.Limits.{whole}
 use Rattle.interface.specs.Plants.{Model, Lawful, Inside}
 use Rattle.interface.specs.Rows.{Row, minus, times}
 use Rattle.interface.specs.Tariffs.{Scale, LawfulScale, price}
-use Rattle.lookahead.specs.Best.{better, first_best, FirstBest, cheaper, where_feasible}
+use Rattle.lookahead.specs.Best.{first_best, FirstBest, cheaper, where_feasible}
 use Rattle.lookahead.specs.Gains.{value_of, expected, look_ahead, gain}
 use Rattle.lookahead.proofs.Bounds.{EachFit, length_plus, length_times}
 use Rattle.lookahead.proofs.Firsts.{first_best_law}
-
-pub first_best_more : (good : Row → Row → Bool) (f : ℕ → Option Row) (n : ℕ) → first_best good f (n + 1) ≡ better good (first_best good f n) n (f n)
-first_best_more good f n = rw add-one refl
 
 length_minus : (n : ℕ) (u v : Row) → length u ≡ n → length v ≡ n → length (minus u v) ≡ n
 length_minus n [] v p q = p

@@ -1,8 +1,6 @@
 -- The numbers of a list, written one after the other.
 use Rattle.std.proofs.Common.{◌≡◌, ℕ, suc, ◌+◌, ◌-◌, ◌<◌, ◌≤◌, Bool, true, false, cond, not, leb, List, [], ◌∷◌, ◌++◌, length, take, drop, set, replicate, is_some, Some, None, Option, sym, refl, ap, ◌∙◌, arith, Bor}
-use native.Mathlib.Nat.{sub-zero}
 use Rattle.std.proofs.lemmas.List.{append_assoc, append-nil, take_all, take_more_set, drop-replicate}
-use Rattle.std.proofs.lemmas.Iterator.Adapters.{option_map_id}
 use Rattle.std.specs.Bool.{then_some}
 use Rattle.std.specs.Option.{option_map}
 use Rattle.std.proofs.lemmas.Bool.{le-leb, cond-true, true≢false}
@@ -19,26 +17,13 @@ from_zero (Some n) = cond-true _ _ _ (le-leb 0 n (omega arith))
 abbrev pub onto : List ℕ → Option (List ℕ) → Option (List ℕ)
 onto ns rest = option_map (λ ms. ns ++ ms) rest
 
--- nothing is read yet
-pub none_yet : (fs gs : List (List ℕ)) (most count : ℕ) (out : List ℕ) → fs ≡ gs → numbers_of gs most count ≡ onto (take 0 out) (numbers_of fs most (count - 0))
-none_yet fs gs most count out e = ap (λ l. numbers_of l most count) (sym e) ∙ sym (option_map_id (numbers_of fs most count)) ∙ ap (λ n. onto (take 0 out) (numbers_of fs most n)) (sym (sub-zero count))
-
 module _ (read : Option (List ℕ)) (fs : List (List ℕ)) (most count i : ℕ) (out : List ℕ) (h : read ≡ onto (take i out) (numbers_of fs most (count - i))) where
-  -- a place is left, but no field
-  pub field_missing : i < count → fs ≡ [] → read ≡ None
-  field_missing inside e =
-      let more : count - i ≡ suc (count - (i + 1)) = omega arith in
-      h ∙ ap (λ l. onto (take i out) (numbers_of l most (count - i))) e ∙ ap (λ m. onto (take i out) (numbers_of [] most m)) more
-
   module _ (f : List ℕ) (gs : List (List ℕ)) (e : fs ≡ f ∷ gs) where
     -- the fields from the first one on, where a place is left
     at_first : i < count → read ≡ onto (take i out) (in_front (at_least 0 (numeral f most)) (numbers_of gs most (count - (i + 1))))
     at_first inside =
         let more : count - i ≡ suc (count - (i + 1)) = omega arith in
         h ∙ ap (λ l. onto (take i out) (numbers_of l most (count - i))) e ∙ ap (λ m. onto (take i out) (numbers_of (f ∷ gs) most m)) more ∙ ap (λ o. onto (take i out) (in_front o (numbers_of gs most (count - (i + 1))))) (sym (from_zero (numeral f most)))
-
-    pub field_unread : i < count → None ≡ at_least 0 (numeral f most) → read ≡ None
-    field_unread inside q = at_first inside ∙ ap (λ o. onto (take i out) (in_front o (numbers_of gs most (count - (i + 1))))) (sym q)
 
     pub field_read : (n : ℕ) → i < count → length out ≡ count → Some n ≡ at_least 0 (numeral f most) → read ≡ onto (take (i + 1) (set out i n)) (numbers_of gs most (count - (i + 1)))
     field_read n inside long q =

@@ -86,7 +86,3 @@ list_law s most count small ns = (
       let cut : fields s ≡ map decimal ns = ap fields h.0 ∙ fields_joined (map decimal ns) some (decimals_free most small ns h.3) in
       ap (λ fs. numbers_of fs most count) cut ∙ ap (numbers_of (map decimal ns) most) (sym h.2) ∙ numbers_back most small ns h.3),
 )
-
--- the same of what was found to be read
-pub between_at : (s : List ℕ) (least most : ℕ) (r : Option ℕ) → most < 2 ^ 64 → r ≡ number_between s least most → ReadsBetween s least most r
-between_at s least most r small e = subst (ReadsBetween s least most) (sym e) (between_law s least most small)

@@ -1,20 +1,7 @@
-use Rattle.std.proofs.Common.{[], ◌∙◌, arith}
-use Rattle.reading.proofs.ListLaws.{none_yet, field_missing, field_unread, field_read, list_refused, list_ended}
+use Rattle.std.proofs.Common.{◌∙◌, arith}
+use Rattle.reading.proofs.ListLaws.{field_read, list_ended}
 use Rattle.reading.proofs.ValueLaws.{list_law}
 use Rattle.reading.proofs.values.number_list.Goals as goal
-
-pub loop-number-init : goal.loop-number-init
-loop-number-init g c = none_yet _ _ c.args.most c.args.count [] c.new-fields.ensures.fields
-
-pub returns-in_err-next-clause-value : goal.returns-in_err-next-clause-value
-returns-in_err-next-clause-value g c =
-    let lost = field_missing _ _ c.args.most c.args.count c.loop-number.number-index _ c.loop-number.invariant (omega arith) c.in_err-next.ensures.steps.0 in
-    c.from_residual.ensures ∙ list_refused c.args.value.now g.row.N c.args.most c.args.count lost
-
-pub returns-in_err-number-clause-value : goal.returns-in_err-number-clause-value
-returns-in_err-number-clause-value g c =
-    let lost = field_unread _ _ c.args.most c.args.count c.loop-number.number-index _ c.loop-number.invariant _ _ c.in_ok-next.ensures.steps (omega arith) c.in_err-number.ensures.value in
-    c.from_residual-in_err-number.ensures ∙ list_refused c.args.value.now g.row.N c.args.most c.args.count lost
 
 pub loop-number-preserved : goal.loop-number-preserved
 loop-number-preserved g c =
