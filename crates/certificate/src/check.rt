@@ -22,7 +22,7 @@ pub const MOST_VALUE: u64 = 1_000_000_000_000;
 // The farthest that low and high may reach.
 pub const MOST_CLAIM: u64 = 100_000_000_000_000_000;
 
-// Refused by the first value beyond reach. A `for` over the lent table with its index is the form of the house for this test.
+// Refused by the first value beyond reach. By a `for` over the lent table with its index, which is the place of the refusal.
 pub(crate) fn values_near<T: Tariff>(tariff: &T, values: &[T::Amount]) -> Result<(), Refusal>
     ensures { result_err result ≡ first_fault (value_fault (T.scale tariff.now) (map T.Tariff.row values.now)) (length values.now) }
 {
@@ -105,8 +105,8 @@ fn claims_near<T: Tariff>(tariff: &T, claims: Claims<T::Amount>) -> bool
     tariff.reach(claims.low) <= MOST_CLAIM && tariff.reach(claims.high) <= MOST_CLAIM
 }
 
-// Refused by the first test of a certificate that fails. The tables are the caller's, each lent as a slice, here and in
-// the public calls of this crate, as only this has told that both have an entry for each state.
+// Refused by the first test of a certificate that fails. Values and policy are the caller's, each lent as a slice: as one
+// view of both they would be level only after the first test here, and a finding is of the values alone.
 fn certificate_holds<P: Plant, T: Tariff>(
     plant: &P,
     tariff: &T,

@@ -15,8 +15,9 @@ pub struct Part {
     pub dark: u32,
 }
 
-// Part i is at index i - 1. What lies beyond the parts and the arcs is ignored. The tables have a count beside them, since
-// these are any numbers, to be refused by Chain::new: a list that cannot hold a count out of range would ask more of callers.
+// Part i is at index i - 1. What lies beyond the parts and the arcs is ignored. A plain record with fixed tables and their
+// counts, so that a caller fills it field by field, without memory, and Chain::new alone judges it: lists with an invariant
+// of their own would have to refuse a count that is out of range before.
 #[derive(Clone, Copy)]
 pub struct ChainNumbers {
     // How many parts there are.

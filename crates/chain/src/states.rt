@@ -10,8 +10,8 @@ use workorder::MAX_PARTS;
 pub struct ChainState {
     // The age of part i, from 1, is at index i - 1; what lies beyond the chain's parts is ignored, as in its numbers.
     pub ages: [usize; MAX_PARTS],
-    // The failed part, numbered from 1 as the parts are, or 0, which is no part. An Option would be no plainer: 0 is a term
-    // of the state's number like the others, and would be made of the Option and back at each of the two.
+    // The failed part, numbered from 1 as the parts are, or 0 for none, as the subject numbers it. An Option would be no
+    // plainer: it would allow Some(0), which is one more value to refuse.
     pub failed: usize,
 }
 

@@ -10,8 +10,8 @@ use workorder::holds;
 pub(crate) struct Window {
     // Of all parts together.
     pub(crate) hazards: u32,
-    // Of the part asked about, and 0 where the chain has no such part. An Option would be no plainer: who asks knows from
-    // the outcome's number whether there is one, and reads 0 as a hazard of 0 where there is none.
+    // Of the part asked about, and 0 where the chain has no such part. An Option would be no plainer: who asks knows by the
+    // outcome's number whether there is one, and does not read the 0.
     pub(crate) hazard: u32,
     // The number of the state in which every part is one window older than at its start, and none has failed.
     pub(crate) next: usize,

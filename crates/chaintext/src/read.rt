@@ -16,7 +16,7 @@ use chain::plant::Chain;
 use chain::refusal::ChainRefusal;
 use lines::reading::{Line, Lines};
 use reading::keys::Key;
-use reading::rules::{ReadRefusal, Rule, fault_rule};
+use reading::rules::{ReadRefusal, Rule};
 use workorder::{Arc, MAX_PARTS};
 
 impl ChainReader {
@@ -67,7 +67,7 @@ impl ChainReader {
     {
         match line {
             Line::Pair(key, value) => self.step(Key::from(key), value),
-            Line::Fault(number) => Err(fault_rule(number)),
+            Line::Fault(number) => Err(Rule::from(number)),
         }
     }
 }

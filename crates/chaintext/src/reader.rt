@@ -30,8 +30,8 @@ pub struct Head {
     pub alarm: u32,
 }
 
-// The part opened last has the number `opened`; its record is at `opened` - 1, and is lent to be filled. A fixed table of
-// records is the form of the house for a reader.
+// The part opened last has the number `opened`; its record is at `opened` - 1, and is lent to be filled. The table is fixed:
+// a reader takes no memory, and there are never more than MAX_PARTS.
 #[derive(Clone, Copy)]
 pub struct ChainReader {
     pub stage: Stage,

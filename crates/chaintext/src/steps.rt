@@ -32,7 +32,8 @@ impl ChainReader {
         Ok(())
     }
 
-    // threshold=0 to 10000. The next two differ in the field that they fill: as one function they would take a closure for it, which is no plainer.
+    // threshold=0 to 10000. The next two fill other fields and have other lines behind them. As one function with the field
+    // lent they would be no plainer: all that they share is the call of number_between.
     fn take_threshold(&mut self, value: &[u8]) -> Result<(), Rule>
         ensures { Took (threshold_step self.old value.now) self.old self.new result }
     {
@@ -83,8 +84,7 @@ impl ChainReader {
         self.opened.checked_sub(1).filter(|at| *at < MAX_PARTS)
     }
 
-    // life=1 to 20. This one, surplus and dark differ in the field and in the stage behind: as one function they would take
-    // a closure for each, which is no plainer.
+    // life=1 to 20. This one, surplus and dark share the call of number_between, as those above do.
     fn take_life(&mut self, value: &[u8]) -> Result<(), Rule>
         ensures { Took (life_step self.old value.now) self.old self.new result }
     {
@@ -144,7 +144,7 @@ impl ChainReader {
         Ok(())
     }
 
-    // One line: matched by what is due and by its key, which is the form of the house for a reader of a plant.
+    // One line: what is due and the key are matched together, so that every other pair of them is refused in one arm.
     // A refused line leaves the reader as it was.
     pub(crate) fn step(&mut self, key: Key, value: &[u8]) -> Result<(), Rule>
         ensures { Took (chain_step self.old key value.now) self.old self.new result }

@@ -2,8 +2,8 @@
 use crate::limits::MOST_GRADES;
 
 // One unit. The row of grade g is at index g - 1, and in it the hundredths of the next grade h at index h - 1.
-// What lies beyond the grades is ignored. Plain tables with a count: a list that knows its length would refuse counts
-// that a caller may pass, or need a heap.
+// What lies beyond the grades is ignored. A plain record with fixed tables and their count, so that a caller fills it field
+// by field, without memory, and Pair::new alone judges it.
 #[derive(Clone, Copy)]
 pub struct UnitNumbers {
     // The last grade is failed.

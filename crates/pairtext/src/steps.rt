@@ -12,7 +12,7 @@ use crate::stage::{Stage, UnitName};
 use lines::reading::Line;
 use pair::limits::{LEAST_GRADES, MOST_CHARGE, MOST_DARK, MOST_GRADES, MOST_THRESHOLD};
 use reading::keys::Key;
-use reading::rules::{Rule, fault_rule};
+use reading::rules::Rule;
 use reading::values::number_between;
 
 // The words after kind= and end=.
@@ -20,7 +20,8 @@ const KIND: &[u8] = b"pair";
 
 const END: &[u8] = b"plant";
 
-// A method for each number: it fills one field and names the stage behind it, and a field is no parameter.
+// A method for each number, which fills another field and names another stage behind it. As one function with the field lent
+// they would be no plainer: all that they share is the call of number_between.
 impl PairReader {
     // The word that is due, behind which comes the next stage. The chain's reader has the like: the stages are of two types,
     // and a trait for both would be longer than the method.
@@ -141,8 +142,8 @@ impl PairReader {
         Ok(())
     }
 
-    // Takes one line by the stage and its key, which is the form of the house for a reader of a plant, and moves on.
-    // A refused line leaves the reader as it was.
+    // Takes one line and moves on: the stage and the key are matched together, so that every other pair of them is refused in
+    // one arm. A refused line leaves the reader as it was.
     pub(crate) fn step(&mut self, line: Line) -> Result<(), Rule>
         requires { Sound self.old }
         ensures answer { result ≡ answer_of (line_step self.old (said line.entry)) }
@@ -150,7 +151,7 @@ impl PairReader {
     {
         let (key, value) = match line {
             Line::Pair(name, value) => (Key::from(name), value),
-            Line::Fault(fault) => return Err(fault_rule(fault)),
+            Line::Fault(fault) => return Err(Rule::from(fault)),
         };
         match (self.stage, key) {
             (Stage::KindDue, Key::Kind) => self.take_word(value, KIND, Stage::ThresholdDue),

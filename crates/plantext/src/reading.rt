@@ -7,7 +7,7 @@ ghost use Rattle.interface.specs.Limits.{most_states};
 ghost use Rattle.interface.specs.Rows.{Row, zeros};
 
 use crate::refusal::{Fault, PlanRefusal};
-use crate::stage::{PLAN, Stage};
+use crate::stage::{END, HIGH, LOW, PLAN, ROW, STATES, Stage};
 use crate::values::{StateEntry, read_amount, read_count, read_entry};
 use interface::claims::Claims;
 use interface::tariff::Tariff;
@@ -45,7 +45,8 @@ impl<A: Copy> Reader<A> {
         Ok(())
     }
 
-    // The next one differs in the field and in the line behind: as one function they would take a closure for the field.
+    // The next one fills another field and has another line behind it. As one function with the field lent they would be no
+    // plainer: all that they share is the call of read_amount.
     fn take_low<T: Tariff<Amount = A>>(&mut self, tariff: &T, value: &[u8]) -> Result<(), Fault>
         ensures { (vs : List A) (xs : List ℕ) → Judged result (value_fault (T.scale tariff.now).places Stage.Low value.now) (TakesLow (T.scale tariff.now).places value.now (progress T.Tariff.row self.old vs xs) (progress T.Tariff.row self.new vs xs)) }
     {
@@ -92,8 +93,8 @@ impl<A: Copy> Reader<A> {
         Ok(())
     }
 
-    // Takes the line that is due: its value goes where it belongs, and the next line is due. A match by stage, as each line
-    // fills another field or table and asks for other things: a table of functions would ask each for what all of them take.
+    // Takes the line that is due: its value goes where it belongs, and the next line is due. What is due and the key are
+    // matched together, so that every other pair of them is refused in one arm.
     fn take<T: Tariff<Amount = A>>(
         &mut self,
         tariff: &T,
@@ -107,16 +108,13 @@ impl<A: Copy> Reader<A> {
         ensures judged { Judged result (pair_fault (T.scale tariff.now).places self.old.due key.now value.now) (TakesDue (T.scale tariff.now).places self.old.due value.now (progress T.Tariff.row self.old values.old policy.old) (progress T.Tariff.row self.new values.new policy.new)) }
         ensures kept { self.old.due ≡ Some Stage.States → (values.new ≡ values.old) × (policy.new ≡ policy.old) }
     {
-        let due = self.due.ok_or(Fault::NotDue)?;
-        if key != due.key() {
-            return Err(Fault::NotDue);
-        }
-        match due {
-            Stage::States => self.take_states(value),
-            Stage::Low => self.take_low(tariff, value),
-            Stage::High => self.take_high(tariff, value),
-            Stage::Row(state) => self.take_row(tariff, state, value, values, policy),
-            Stage::End => self.take_end(value),
+        match (self.due, key) {
+            (Some(Stage::States), STATES) => self.take_states(value),
+            (Some(Stage::Low), LOW) => self.take_low(tariff, value),
+            (Some(Stage::High), HIGH) => self.take_high(tariff, value),
+            (Some(Stage::Row(state)), ROW) => self.take_row(tariff, state, value, values, policy),
+            (Some(Stage::End), END) => self.take_end(value),
+            _ => Err(Fault::NotDue),
         }
     }
 
@@ -156,7 +154,7 @@ impl<A: Copy> Reader<A> {
         requires few { length values.old ≤ most_states }
         ensures { ReadsBehind (T.scale tariff.now).places (length values.old) (progress T.Tariff.row self.new values.new policy.new).plan lines.old.rest.now lines.old.place result }
     {
-        // The line that is due is told by the one before, so there is no list of them for a `for`.
+        // The reader keeps what is due, so a `for` over the lines' numbers would count what that tells already.
         while self.due.is_some() {
             self.read_line(tariff, lines, values, policy)?;
         }

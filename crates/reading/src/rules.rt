@@ -58,14 +58,15 @@ impl ReadRefusal {
     }
 }
 
-// The rule that is broken where no line could be read: a line's fault, or else that the text ends early. No From: a number
-// is a rule only as the fault of a line.
-pub fn fault_rule(fault: u8) -> Rule
-    ensures { result ≡ fault_rule fault }
-{
-    if fault == BAD_LINE {
-        Rule::BadLine
-    } else {
-        Rule::Unexpected
+// The rule that is broken where no line could be read, by the fault of the line: its own, or else that the text ends early.
+impl From<u8> for Rule {
+    ghost from_gives = { λ fault rule. rule ≡ fault_rule fault };
+
+    fn from(fault: u8) -> Rule {
+        if fault == BAD_LINE {
+            Rule::BadLine
+        } else {
+            Rule::Unexpected
+        }
     }
 }

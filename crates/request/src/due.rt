@@ -6,7 +6,7 @@ ghost use Rattle.request.specs.Due.{ValueDue};
 
 use lines::reading::Line;
 use reading::keys::Key;
-use reading::rules::{Rule, fault_rule};
+use reading::rules::Rule;
 
 // The value of a line with this key.
 pub(crate) fn value_due<'a>(line: Line<'a>, key: Key) -> Result<&'a [u8], Rule>
@@ -15,6 +15,6 @@ pub(crate) fn value_due<'a>(line: Line<'a>, key: Key) -> Result<&'a [u8], Rule>
     match line {
         Line::Pair(name, value) if name == key.name() => Ok(value),
         Line::Pair(_, _) => Err(Rule::Unexpected),
-        Line::Fault(fault) => Err(fault_rule(fault)),
+        Line::Fault(fault) => Err(Rule::from(fault)),
     }
 }

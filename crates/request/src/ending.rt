@@ -5,7 +5,7 @@ ghost use Rattle.request.specs.Requests.{goes_on, read_end};
 ghost use Rattle.request.specs.Writing.{ReadsEnd};
 
 use lines::reading::{Line, Lines, Read};
-use reading::rules::{ReadRefusal, Rule, fault_rule};
+use reading::rules::{ReadRefusal, Rule};
 
 // The rule that a line breaks which should not be there. No From: both types are of crates below.
 fn goes_on(line: Line) -> Rule
@@ -13,7 +13,7 @@ fn goes_on(line: Line) -> Rule
 {
     match line {
         Line::Pair(_, _) => Rule::Unexpected,
-        Line::Fault(fault) => fault_rule(fault),
+        Line::Fault(fault) => Rule::from(fault),
     }
 }
 
