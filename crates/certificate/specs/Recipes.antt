@@ -1,4 +1,4 @@
--- The recipe: from a value table and a policy, the best claims that they bear.
+-- The recipe: of a value table and a policy, the least gain of all feasible portfolios and the greatest of the policy's.
 use Rattle.std.specs.Prelude.{◌≡◌, ℕ, ◌<◌, true, false, cond, ◌⊎◌, List, Some, None, Option}
 use Rattle.interface.specs.Plants.{Model}
 use Rattle.interface.specs.Rows.{Row}

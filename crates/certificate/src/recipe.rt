@@ -1,4 +1,4 @@
-// The recipe: the best claims that a value table and a policy bear.
+// The recipe: the claims that are made of a value table and a policy.
 ghost use Rattle.std.specs.Prelude.{◌≡◌, ◌<◌, map, length};
 ghost use Rattle.std.specs.Option.{option_map};
 ghost use Rattle.std.specs.Result.{result_err};

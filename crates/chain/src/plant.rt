@@ -67,7 +67,7 @@ impl Chain {
         self.numbers
     }
 
-    // The least cents of a work order for the portfolio, absent exactly when the chain has none for it.
+    // The least cents of a work order for the portfolio, absent exactly when the chain has no such portfolio or no order for it.
     pub fn least_work_order(&self, portfolio: usize) -> Option<u64>
         ensures { LeastWithin self.now.numbers portfolio result }
     {

@@ -1,4 +1,4 @@
-// What a certificate claims of all policies, and of its own: no policy costs less a window than low, and its own no more than high.
+// What a certificate claims of gains: that of no feasible portfolio is below low, and none of its own policy's is above high.
 #[derive(Clone, Copy, PartialEq, Eq, Debug)]
 pub struct Claims<A> {
     pub low: A,

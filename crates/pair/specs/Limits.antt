@@ -1,5 +1,6 @@
 -- The limits of a pair, as src/limits.rt has them for the code.
 use Rattle.std.specs.Prelude.{ℕ}
+use Rattle.interface.specs.Limits.{most_charge as any_charge, most_threshold as any_threshold}
 
 abbrev pub least_grades : ℕ
 least_grades = 2
@@ -12,11 +13,11 @@ abbrev pub hundred : ℕ
 hundred = 100
 
 abbrev pub most_threshold : ℕ
-most_threshold = 10000
+most_threshold = any_threshold
 
 -- the largest setup, inspection, planned or forced renewal, in cents
 abbrev pub most_charge : ℕ
-most_charge = 1000000
+most_charge = any_charge
 
 -- the largest number of dark seconds of one failed unit
 abbrev pub most_dark : ℕ

@@ -15,7 +15,7 @@ pub fn number_between(value: &[u8], least: u32, most: u32) -> Option<u32>
 }
 
 // Reads `value` as a list of exactly `count` numbers, each at most `most` and with a comma between each two. Zeros stand
-// behind them; absent where it is no such list, or one of more than N numbers.
+// behind them; absent where it is no such list, as there is none of 0 numbers, or where `count` is above N.
 #[tactic(auto, using(crate::proofs::ValueLaws::list_law))]
 pub fn number_list<const N: usize>(value: &[u8], most: u32, count: usize) -> Option<[u32; N]>
     ensures value { result ≡ padded_list N value.now most count }
