@@ -24,12 +24,12 @@ module _ (n : ChainNumbers) (st : ChainState) where
   entry_at k = let less : k + 1 - 1 ≡ k = omega arith in ap (λ z. get_or st.ages z 0) less
 
   -- one part more
-  pub count_more : (k total width l : ℕ) → Counted n st k total width → l ≡ life n (k + 1) → 1 ≤ get_or st.ages k 0 → get_or st.ages k 0 ≤ l → Counted n st (k + 1) (total + (get_or st.ages k 0 - 1) * width) (width * l)
-  count_more k total width l before long some most =
+  pub count_more : (k total width l age : ℕ) → Counted n st k total width → l ≡ life n (k + 1) → age ≡ get_or st.ages k 0 → 1 ≤ age → age ≤ l → Counted n st (k + 1) (total + (age - 1) * width) (width * l)
+  count_more k total width l age before long old some most =
       let same = entry_at k in
       record {
         wide = lives_more n k width l before.wide long;
-        older = number_step (life n) (λ j. entry st.ages j - 1) k total width (get_or st.ages k 0 - 1) before.older before.wide (omega arith);
+        older = number_step (life n) (λ j. entry st.ages j - 1) k total width (age - 1) before.older before.wide (omega arith);
         aged = λ j one many. elim (cases_lt j (k + 1)) [
           | inl h ↦ before.aged j one (omega arith)
           | inr h ↦ (let here : k + 1 ≡ j = omega arith in subst (λ (z : ℕ). (1 ≤ entry st.ages z) × (entry st.ages z ≤ life n z)) here (omega arith, omega arith))
@@ -37,8 +37,8 @@ module _ (n : ChainNumbers) (st : ChainState) where
       }
 
   -- a part that cannot have its age
-  pub not_counted : (k l : ℕ) → k < n.count → l ≡ life n (k + 1) → (1 ≤ get_or st.ages k 0 → get_or st.ages k 0 ≤ l → ⊥) → None ≡ number_of n st
-  not_counted k l inside long none =
+  pub not_counted : (k l age : ℕ) → k < n.count → l ≡ life n (k + 1) → age ≡ get_or st.ages k 0 → (1 ≤ age → age ≤ l → ⊥) → None ≡ number_of n st
+  not_counted k l age inside long old none =
       number_absent n st (λ aged. let same = entry_at k in let here = aged (k + 1) (omega arith) (omega arith) in none (omega arith) (omega arith))
 
   pub all_counted : (total width : ℕ) → Counted n st n.count total width → st.failed ≤ n.count → Some ((n.count + 1) * total + st.failed) ≡ number_of n st

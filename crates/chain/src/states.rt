@@ -44,6 +44,7 @@ impl Chain {
     {
         let mut ages = [0; MAX_PARTS];
         let mut rest = state / (self.numbers.count + 1);
+        // By index: over `iter_mut().zip(..)` the check does not find what the array holds after the loop.
         for (i, part) in self.numbers.parts().iter().enumerate() {
             ages[i] = rest % part.life + 1;
             rest /= part.life;
@@ -61,8 +62,7 @@ impl Chain {
         }
         let mut total = 0;
         let mut width = 1;
-        for (i, part) in self.numbers.parts().iter().enumerate() {
-            let age = state.ages[i];
+        for (part, &age) in self.numbers.parts().iter().zip(&state.ages) {
             if age < 1 || age > part.life {
                 return None;
             }

@@ -1,11 +1,21 @@
-use Rattle.std.proofs.Common.{◌≡◌, ◌+◌, ◌-◌, ◌*◌, get_or, arith}
+use Rattle.std.proofs.Common.{◌≡◌, ◌+◌, ◌-◌, ◌*◌, ◌<◌, ◌≤◌, length, get_or, ap, ◌∙◌, arith, rules, length-append}
 use Rattle.chain.proofs.Counting.{Counted, all_counted, count_more, not_counted, number_fits, total_fits, width_fits}
 use Rattle.chain.proofs.Places.{life_at}
 use Rattle.chain.proofs.plant.Chain.state_number.Goals as goal
-use Rattle.chain.proofs.plant.Chain.state_number.Goals.{Else-age-part, then-age-lt1-via-then-age-lt1, then-age-lt1-via-else-age-lt1+then-age-part}
+use Rattle.chain.proofs.plant.Chain.state_number.Goals.{In-Some, Else-age-part, then-age-lt1-via-then-age-lt1, then-age-lt1-via-else-age-lt1+then-age-part}
 use Rattle.chain.specs.LawsLemmas.{lives_in_range}
-use Rattle.chain.specs.Parts.{blank}
+use Rattle.chain.specs.Parts.{blank, life}
 use Rattle.chain.specs.RoundTrips.{without_loss}
+use Rattle.chain.specs.declared.numbers.Part.{Part}
+use Rattle.workorder.specs.Orders.{max_parts}
+use Rattle.std.proofs.lemmas.Slice.Zip.{zip_turn, zip_end}
+
+-- the part and the age of this turn
+turned : (c : goal.In-Some) → let i = length c.loop-part.yielded in (i < c.args.self.now.numbers.count) × (c.in-Some.part.now.life ≡ life c.args.self.now.numbers (i + 1)) × (c.in-Some.field-0-1.now ≡ get_or c.args.state.now.ages i 0)
+turned c =
+    let n = c.args.self.now.numbers in
+    let here = zip_turn c.parts.result.now c.args.state.now.ages c.loop-part.yielded c.into_iter-part-iterator.result c.loop-part.part-iterator c.next.new.self _ (search rules) (search rules) c.loop-part.yielded_by _ c.in-Some.is c.next.ensures.steps in
+    (omega (arith, here.0, c.parts.ensures.long), ap (λ (p : Part). p.life) (here.2 blank) ∙ life_at n c.parts.result.now _ c.parts.ensures.value c.parts.ensures.long here.0, here.3 0)
 
 pub returns-then-state-self-clause-kept : goal.returns-then-state-self-clause-kept
 returns-then-state-self-clause-kept c = let p = c.args.self.now in without_loss p.numbers p.ranges.terms (lives_in_range p.numbers p.ranges)
@@ -13,9 +23,9 @@ returns-then-state-self-clause-kept c = let p = c.args.self.now in without_loss 
 pub returns-then-age-lt1 : goal.returns-then-age-lt1
 returns-then-age-lt1 c =
     let p = c.args.self.now in
-    let long = life_at p.numbers c.parts-part-items.result.now c.loop-i.i c.parts-part-items.ensures.value c.parts-part-items.ensures.long c.loop-i-test.true in
+    let here = turned (goal.at.returns-then-age-lt1 c).In-Some in
     record {
-      value = not_counted p.numbers c.args.state.now c.loop-i.i _ (omega (arith, c.parts-part-items.ensures.long)) long (λ some most. elim c.then-age-lt1.branch [
+      value = not_counted p.numbers c.args.state.now (length c.loop-part.yielded) _ c.in-Some.field-0-1.now here.0 here.1 here.2 (λ some most. elim c.then-age-lt1.branch [
         | then-age-lt1-via-then-age-lt1 w ↦ omega (arith, w.if-age-lt1.true)
         | then-age-lt1-via-else-age-lt1+then-age-part w ↦ omega (arith, w.if-age-part.true)
       ]);
@@ -23,27 +33,39 @@ returns-then-age-lt1 c =
     }
 
 -- with the part of this turn
-turn : (c : goal.Else-age-part) → let l = (get_or c.parts-part-items.result.now c.loop-i.i blank).life in Counted c.args.self.now.numbers c.args.state.now (c.loop-i.i + 1) (c.loop-i.total + (get_or c.args.state.now.ages c.loop-i.i 0 - 1) * c.loop-i.width) (c.loop-i.width * l)
+turn : (c : goal.Else-age-part) → let i = length c.loop-part.yielded + 1 in Counted c.args.self.now.numbers c.args.state.now i (c.loop-part.total + (c.in-Some.field-0-1.now - 1) * c.loop-part.width) (c.loop-part.width * c.in-Some.part.now.life) × (i ≤ c.args.self.now.numbers.count)
 turn c =
-    let n = c.args.self.now.numbers in
-    let long = life_at n c.parts-part-items.result.now c.loop-i.i c.parts-part-items.ensures.value c.parts-part-items.ensures.long c.loop-i-test.true in
-    count_more n c.args.state.now c.loop-i.i c.loop-i.total c.loop-i.width _ c.loop-i.invariant long c.if-age-lt1.false c.if-age-part.false
+    let here = turned (goal.at.Else-age-part c).In-Some in
+    (count_more c.args.self.now.numbers c.args.state.now (length c.loop-part.yielded) c.loop-part.total c.loop-part.width _ _ c.loop-part.invariant here.1 here.2 c.if-age-lt1.false c.if-age-part.false, omega (arith, here.0))
 
 pub overflow_mul-total : goal.overflow_mul-total
-overflow_mul-total c = let p = c.args.self.now in omega (arith, total_fits p.numbers c.args.state.now p.ranges (c.loop-i.i + 1) _ _ (turn (goal.at.overflow_mul-total c).Else-age-part) (omega (arith, c.parts-part-items.ensures.long)))
+overflow_mul-total c =
+    let p = c.args.self.now in
+    let now = turn (goal.at.overflow_mul-total c).Else-age-part in
+    omega (arith, total_fits p.numbers c.args.state.now p.ranges _ _ _ now.0 now.1)
 
 pub overflow_add-total : goal.overflow_add-total
-overflow_add-total c = let p = c.args.self.now in omega (arith, total_fits p.numbers c.args.state.now p.ranges (c.loop-i.i + 1) _ _ (turn (goal.at.overflow_add-total c).Else-age-part) (omega (arith, c.parts-part-items.ensures.long)))
+overflow_add-total c =
+    let p = c.args.self.now in
+    let now = turn (goal.at.overflow_add-total c).Else-age-part in
+    omega (arith, total_fits p.numbers c.args.state.now p.ranges _ _ _ now.0 now.1)
 
 pub overflow_mul-width : goal.overflow_mul-width
-overflow_mul-width c = let p = c.args.self.now in omega (arith, width_fits p.numbers c.args.state.now p.ranges (c.loop-i.i + 1) _ _ (turn (goal.at.overflow_mul-width c).Else-age-part) (omega (arith, c.parts-part-items.ensures.long)))
+overflow_mul-width c =
+    let p = c.args.self.now in
+    let now = turn (goal.at.overflow_mul-width c).Else-age-part in
+    omega (arith, width_fits p.numbers c.args.state.now p.ranges _ _ _ now.0 now.1)
 
-pub loop-i-preserved : goal.loop-i-preserved
-loop-i-preserved c = turn (goal.at.loop-i-preserved c).Else-age-part
+pub loop-part-preserved : goal.loop-part-preserved
+loop-part-preserved c = rw length-append (turn (goal.at.loop-part-preserved c).Else-age-part).0
 
 -- with all parts
-all : (c : goal.After-loop-i) → Counted c.args.self.now.numbers c.args.state.now c.args.self.now.numbers.count c.loop-i.total c.loop-i.width
-all c = let end : c.loop-i.i ≡ c.args.self.now.numbers.count = omega (arith, c.parts-part-items.ensures.long) in rw end at c.loop-i.invariant
+all : (c : goal.In-None) → Counted c.args.self.now.numbers c.args.state.now c.args.self.now.numbers.count c.loop-part.total c.loop-part.width
+all c =
+    let ended = zip_end c.parts.result.now c.args.state.now.ages c.loop-part.yielded c.into_iter-part-iterator.result c.loop-part.part-iterator c.next.new.self _ (search rules) (search rules) c.loop-part.yielded_by c.in-None.is c.next.ensures.steps in
+    let long : length c.args.state.now.ages ≡ max_parts = search rules in
+    let end : length c.loop-part.yielded ≡ c.args.self.now.numbers.count = omega (arith, ended, long, c.parts.ensures.long, c.args.self.now.ranges.terms.0.1) in
+    rw end at c.loop-part.invariant
 
 pub overflow_mul-result : goal.overflow_mul-result
 overflow_mul-result c = let p = c.args.self.now in omega (arith, number_fits p.numbers c.args.state.now p.ranges _ _ (all c) c.if-state-self.false)
@@ -55,6 +77,6 @@ pub returns : goal.returns
 returns c =
     let p = c.args.self.now in
     record {
-      value = all_counted p.numbers c.args.state.now c.loop-i.total c.loop-i.width (all c) c.if-state-self.false;
+      value = all_counted p.numbers c.args.state.now c.loop-part.total c.loop-part.width (all c) c.if-state-self.false;
       kept = without_loss p.numbers p.ranges.terms (lives_in_range p.numbers p.ranges);
     }
