@@ -32,7 +32,8 @@ pub fn reach<const N: usize>(a: [i64; N]) -> u64
 }
 
 // The sum of two amounts, absent exactly when their reaches together exceed MOST_REACH.
-// It and the difference are the same but for the operator: one function that is lent the operator is no plainer.
+// It and the difference are the same but for the operator. As one function that is lent the operator they would be no plainer:
+// that no place overflows would have to be asked of any operator, where each shows it here of its own.
 pub fn sum<const N: usize>(a: [i64; N], b: [i64; N]) -> Option<[i64; N]>
     ensures { Answers (λ u. u) result (summable a.entry b.entry) (plus a.entry b.entry) }
 {

@@ -111,7 +111,7 @@ impl Tariff for ByBasket {
         contents(a) <= contents(b)
     }
 
-    // Each tariff answers the interface by itself, for its own amount: what the answers share is in places.
+    // The interface has no body for these: an array's length cannot be a trait's constant. What they share is in places.
     fn sum(&self, a: Basket, b: Basket) -> Option<Basket> {
         places::sum(a.into(), b.into()).map(Basket::from)
     }

@@ -49,7 +49,8 @@ fn least_share<P: Plant, T: Tariff>(valued: &ValuedPlant<P, T>, state: usize) ->
 }
 
 // The values that a sweep gives, into the working table, up to the first state whose value would be beyond reach.
-// The three tables are the caller's, each lent as a slice, so each function that fills one asks how long it is.
+// The tables are lent one by one, so each function that fills one asks how long it is: a struct that lends them on would owe in
+// each method that it still holds the caller's.
 fn sweep_into<P: Plant, T: Tariff>(
     plant: &P,
     tariff: &T,

@@ -17,7 +17,7 @@ use lines::reading::{EQUALS_SIGN, LINE_END};
 use lines::writing::write_bytes;
 
 // The tables of a plan, which have the same number of entries, 1 to MOST_STATES, and its claims.
-// The tables are the caller's, each lent as a slice, and so they come to this crate's public calls beside one another.
+// They come to plan_line one by one, as each is a table of the caller's and may have any length; here they are level.
 #[derive(Drop)]
 struct PlanView<'a, A> {
     values: &'a [A],

@@ -114,7 +114,7 @@ impl Tariff for Priced {
         a <= b
     }
 
-    // Each tariff answers the interface by itself, for its own amount: what the answers share is in places.
+    // The interface has no body for these: an array's length cannot be a trait's constant. What they share is in places.
     fn sum(&self, a: Cost, b: Cost) -> Option<Cost> {
         places::sum(a.into(), b.into()).map(Cost::from)
     }
