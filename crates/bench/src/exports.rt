@@ -1,7 +1,6 @@
 // What a program in another language calls. Each call answers 0 and writes its number, or answers the number of the
 // refusal and writes nothing.
 ghost use Rattle.std.specs.Prelude.{◌≡◌, ℕ, Result};
-ghost use Rattle.pairtext.specs.Texts.{answered, read_pair};
 ghost use Rattle.bench.specs.Exports.{ChainIn, AsksChain, AsksPair, PlansPriced, PlansAirFirst, Told};
 ghost use Rattle.bench.specs.Refusals.{numbered};
 
@@ -11,7 +10,6 @@ use crate::refusal::Refused;
 use chain::plant::Chain;
 use chaintext::read::read_chain;
 use lines::reading::Lines;
-use pair::plant::Pair;
 use pairtext::text::read_pair;
 use reading::rules::ReadRefusal;
 use tariffs::air_first::AirFirst;
@@ -20,17 +18,11 @@ use tariffs::priced::Priced;
 // The answer to a call that was not refused.
 const DONE: u32 = 0;
 
-// It and pair_in differ in the reader alone: one function that is lent the reader is no plainer than the two calls.
+// The chain that the text describes.
 fn chain_in(text: &[u8]) -> Result<Chain, ReadRefusal>
     ensures { ChainIn text.now result }
 {
     read_chain(&mut Lines::new(text))
-}
-
-fn pair_in(text: &[u8]) -> Result<Pair, ReadRefusal>
-    ensures { answered result ≡ (read_pair text.now 0).answer }
-{
-    read_pair(&mut Lines::new(text))
 }
 
 // It and ask_pair are one line each: ask_rounds is what they share.
@@ -43,7 +35,8 @@ fn ask_chain(text: &[u8], rounds: u32) -> Result<u64, Refused>
 fn ask_pair(text: &[u8], rounds: u32) -> Result<u64, Refused>
     ensures { AsksPair text.now rounds (numbered result) }
 {
-    Ok(ask_rounds(&pair_in(text)?, rounds))
+    let pair = read_pair(&mut Lines::new(text))?;
+    Ok(ask_rounds(&pair, rounds))
 }
 
 fn priced_plan(text: &[u8], rate: u32, sweeps: u32) -> Result<u64, Refused>
