@@ -1,22 +1,12 @@
 -- What comes of a text, without what a refusal leaves of it and without how many lines were read then.
-use Rattle.std.proofs.Common.{ℕ, List, Ok, Err, Result, refl, sym, subst, inl, inr, ⊎_elim, ◌⊎◌}
-use Rattle.chain.specs.Refusals.{Refused}
-use Rattle.chain.specs.Parts.{LawfulNumbers}
-use Rattle.chain.specs.declared.numbers.ChainNumbers.{ChainNumbers}
+use Rattle.std.proofs.Common.{ℕ, List, Ok, Err, Result, sym, subst, inl, inr, ⊎_elim, ◌⊎◌}
 use Rattle.chain.specs.declared.plant.Chain.{Chain}
-use Rattle.chain.specs.declared.refusal.ChainRefusal.{ChainRefusal}
 use Rattle.chain.specs.declared.refusal.ChainRefusal.TheVariants as chain_refusal
 use Rattle.reading.specs.declared.rules.ReadRefusal.{ReadRefusal}
 use Rattle.chaintext.specs.declared.reader.ChainReader.{ChainReader}
-use Rattle.chaintext.specs.Answers.{Accepted, ReadsChain, Replaced, Unmade}
-use Rattle.chaintext.specs.Counted.{CountedAccepted, CountedChain, CountedEnding, CountedReads, CountedRefusal, CountedReplaced, CountedUnmade, UnmadeBy, complete_at, done_at, more_at, refused_at, stop_at}
-use Rattle.chaintext.specs.Reads.{Ending, Reads, complete, done, fresh, more, refused, rule_for, stop}
-
--- why no chain was made, by the refusal of its making
-pub unmade_by : (n : ChainNumbers) (e : ChainRefusal) → LawfulNumbers n → Refused n e → UnmadeBy n (rule_for e)
-unmade_by n chain_refusal.OutOfRange lawful why = absurd (why lawful)
-unmade_by n chain_refusal.TooManyStates lawful why = inl (refl, why.1)
-unmade_by n chain_refusal.NoFullRenewal lawful why = inr (refl, why.1, why.2)
+use Rattle.chaintext.specs.Answers.{Accepted, ReadsChain, Unmade}
+use Rattle.chaintext.specs.Counted.{CountedAccepted, CountedChain, CountedEnding, CountedReads, CountedRefusal, CountedUnmade, complete_at, done_at, more_at, refused_at, stop_at}
+use Rattle.chaintext.specs.Reads.{Ending, Reads, complete, done, fresh, more, refused, stop}
 
 abbrev ending_of : CountedEnding → Ending
 ending_of (complete_at d rest count) = complete d rest count
@@ -45,7 +35,3 @@ module _ (text : List ℕ) (place : ℕ) (rest : List ℕ) (count : ℕ) where
   pub chain_of : (r : Result Chain ReadRefusal) → CountedChain text place rest count r → ReadsChain text place rest r
   chain_of (Ok c) a = accepted_of c a
   chain_of (Err e) h = refusal_of e h
-
-  pub replaced_of : {U : Type 0} (old new : Chain) (r : Result U ReadRefusal) → CountedReplaced old new text place rest count r → Replaced old new text place rest r
-  replaced_of old new (Ok u) a = accepted_of new a
-  replaced_of old new (Err e) h = (h.0, refusal_of e h.1)

@@ -89,11 +89,6 @@ module _ (r : PairReader) (text : List ℕ) (place : ℕ) (g : Reading) where
       let shorter = rest_shorter text k v (sym line) in
       (fuel, (omega (arith, h.0, shorter), sym (cond-false _ _ _ c) ∙ goes_step k v line (Ok next) e fuel h.1))
 
--- a step that was made leaves less of the text
-pub made_shorter : (r : PairReader) (text : List ℕ) (s : Said) (next : PairReader) → s ≡ line_at text → line_step r s ≡ Ok next → length (rest_at text) < length text
-made_shorter r text (pair k v) next line e = omega (arith, rest_shorter text k v (sym line))
-made_shorter r text (fault n) next line e = absurd (cc)
-
 -- the same, by other names for the text and the place
 pub goes_at : (r : PairReader) (text other : List ℕ) (place line : ℕ) (g : Reading) → text ≡ other → place ≡ line → Goes r text place g → Goes r other line g
 goes_at r text other place line g e f h = subst (λ t. Goes r t line g) e (subst (λ p. Goes r text p g) f h)

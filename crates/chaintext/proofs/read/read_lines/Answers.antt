@@ -1,10 +1,10 @@
-use Rattle.std.proofs.Common.{◌≡◌, ◌+◌, ◌<◌, length, Ok, Err, sym, ap, ◌∙◌, subst, rules}
+use Rattle.std.proofs.Common.{◌≡◌, ◌+◌, Ok, Err, sym, ap, ◌∙◌, subst, rules}
 use Rattle.std.proofs.lemmas.Result.{err_from_is_err_and}
 use Rattle.lines.specs.Line.{said, line_at, taken}
 use Rattle.chaintext.specs.declared.reader.Stage.TheVariants as stage
 use Rattle.chaintext.specs.Counted.{ReadsLines}
 use Rattle.chaintext.specs.Reads.{line_step}
-use Rattle.chaintext.proofs.Reading.{took_err, took_on, refused_rule, shorter, refused_here, further, complete_here}
+use Rattle.chaintext.proofs.Reading.{took_err, took_on, refused_rule, refused_here, further, complete_here}
 use Rattle.chaintext.proofs.read.read_lines.Goals as goal
 use Rattle.chaintext.proofs.read.read_lines.Goals.{In_ok-map_err}
 
@@ -42,11 +42,6 @@ returns-then-eq c =
     let done : next.stage ≡ stage.Done = search rules in
     let last = complete_here d text place c.loop-reader.invariant.0 _ _ read.rest (read.count ∙ ap (λ l. place + taken l) line) next (step (goal.at.returns-then-eq c).In_ok-map_err) done in
     (c.loop-reader.invariant.1 _ last.0, read.place ∙ last.1)
-
-pub loop-reader-smaller : goal.loop-reader-smaller
-loop-reader-smaller c =
-    let read = c.next_line-read.ensures in
-    subst (λ w. length w < length c.loop-reader.lines.rest.now) (sym read.rest) (shorter c.loop-reader.reader c.take_line.new.self c.loop-reader.lines.rest.now (step (goal.at.loop-reader-smaller c).In_ok-map_err))
 
 pub loop-reader-preserved : goal.loop-reader-preserved
 loop-reader-preserved c =

@@ -1,22 +1,13 @@
-use Rattle.std.proofs.Common.{◌≡◌, ℕ, suc, ◌+◌, ◌<◌, List, length, Ok, Err, rules, sym, ap, ◌∙◌, subst, arith}
+use Rattle.std.proofs.Common.{◌≡◌, ℕ, ◌+◌, List, Ok, Err, rules, sym, ap, ◌∙◌}
 use Rattle.lines.specs.Line.{said, rest_at, taken}
 use Rattle.pairtext.specs.declared.reader.PairReader.{PairReader}
-use Rattle.pairtext.specs.Sound.{Sound}
 use Rattle.pairtext.specs.Steps.{line_step}
-use Rattle.pairtext.specs.Texts.{Reading, refused_at, numbers_read, judged, read_from, read_pair, answered}
+use Rattle.pairtext.specs.Texts.{Reading, refused_at, numbers_read, judged, read_pair, answered}
 use Rattle.pairtext.proofs.PairTextLaw.{pair_text_law}
 use Rattle.pairtext.proofs.SampleLaws.{sample_read}
-use Rattle.pairtext.proofs.Soundness.{fresh_sound, line_sound}
-use Rattle.pairtext.proofs.TextLaws.{error_mapped, mapped_from, at_line, step_refused, step_made, goes_refused, goes_closed, goes_on, made_shorter, Goes, goes_at}
+use Rattle.pairtext.proofs.Soundness.{line_sound}
+use Rattle.pairtext.proofs.TextLaws.{error_mapped, mapped_from, at_line, step_refused, step_made, goes_refused, goes_closed, goes_on, Goes, goes_at}
 use Rattle.pairtext.proofs.text.read_pair.Goals as goal
-
-pub loop-reader-init : goal.loop-reader-init
-loop-reader-init c =
-    let text : List ℕ = c.args.lines.now.rest.now in
-    let room : length text < suc (length text) = omega arith in (
-      subst Sound (sym c.new-reader.ensures) fresh_sound,
-      (suc (length text), (room, ap (λ r. read_from (suc (length text)) r text c.args.lines.now.place) c.new-reader.ensures)),
-    )
 
 pub returns-in_err-map_err : goal.returns-in_err-map_err
 returns-in_err-map_err c =
@@ -64,15 +55,6 @@ returns-then-is_complete c =
       law = pair_text_law c.args.lines.now.rest.now c.args.lines.now.place c.close.result c.next_line-read.new.self.rest.now answer rest;
       sample = sample_read;
     }
-
-pub loop-reader-smaller : goal.loop-reader-smaller
-loop-reader-smaller c =
-    let line : ℕ = c.next_line-read.result.place in
-    let mapped = mapped_from (at_line line) _ c.step.result c.map_err.result c.map_err.ensures.cases (λ rule z p. search (rules, p)) in
-    let text : List ℕ = c.loop-reader.lines.rest.now in
-    let step = step_made _ c.loop-reader.reader c.step.new.self line _ (sym c.in_ok-map_err.was ∙ mapped ∙ ap (error_mapped (at_line line)) c.step.ensures.answer) c.step.ensures.after in
-    let less = made_shorter c.loop-reader.reader text (said c.next_line-read.result.line) c.step.new.self c.next_line-read.ensures.line step in
-    omega (arith, less, ap length c.next_line-read.ensures.rest)
 
 pub loop-reader-preserved : goal.loop-reader-preserved
 loop-reader-preserved c =
