@@ -6,7 +6,7 @@ mod cases;
 mod requests;
 
 use anyhow::{bail, ensure};
-use cases::{EDITS, LARGEST, WHOLE};
+use cases::{EDITS, EXAMPLE, Edit, LARGEST, PAIR, PAIR_EDITS, TWO_PART_EDITS, TWO_PARTS, WHOLE};
 use reply::answer::Unanswered;
 use reply::replying::reply_to;
 use requests::{edited, lines_of};
@@ -45,6 +45,22 @@ fn tell<F: Fn(&[u8], &[u8]) -> bool>(
     Ok(same)
 }
 
+// Tells the same of every edit of a request.
+fn tell_edits(rt: &HostRuntime, lines: &[&str], edits: &[Edit]) -> anyhow::Result<bool> {
+    let mut all = true;
+    for edit in edits {
+        let request = edited(rt.alloc(), lines, edit.line, edit.text)?;
+        all &= tell(
+            rt,
+            edit.name,
+            request.as_slice(),
+            &[edit.output],
+            |output, expected| output == expected,
+        )?;
+    }
+    Ok(all)
+}
+
 fn run(rt: &HostRuntime) -> anyhow::Result<()> {
     let largest = &LARGEST;
     let request = lines_of(rt.alloc(), largest.request)?;
@@ -65,16 +81,9 @@ fn run(rt: &HostRuntime) -> anyhow::Result<()> {
             |output, expected| output == expected,
         )?;
     }
-    for edit in &EDITS {
-        let request = edited(rt.alloc(), edit.line, edit.text)?;
-        all &= tell(
-            rt,
-            edit.name,
-            request.as_slice(),
-            &[edit.output],
-            |output, expected| output == expected,
-        )?;
-    }
+    all &= tell_edits(rt, &EXAMPLE, &EDITS)?;
+    all &= tell_edits(rt, &TWO_PARTS, &TWO_PART_EDITS)?;
+    all &= tell_edits(rt, &PAIR, &PAIR_EDITS)?;
     ensure!(all, "a figure differs from what is stated");
     Ok(())
 }
