@@ -3,7 +3,11 @@
 //   reference make SEED      writes the text of a random plant
 //   reference ask < TEXT     writes the answers to every question, as the program `questions` does
 use std::collections::HashMap;
-use std::io::Read;
+use std::io::{BufWriter, Read, Write};
+
+const TEN_THOUSAND: u64 = 10_000;
+const MOST_STATES: u64 = 4096;
+const MOST_CENTS: u64 = 1_000_000;
 
 struct Rng(u64);
 
@@ -20,54 +24,93 @@ impl Rng {
     }
 }
 
+// Cents of a line: now and then the most there may be.
+fn cents(r: &mut Rng, usual: u64) -> u64 {
+    if r.below(12) == 0 { MOST_CENTS } else { r.below(usual) }
+}
+
+// Lives of at most 20 windows, few enough for 4,096 states.
+fn random_lives(r: &mut Rng, parts: u64) -> Vec<u64> {
+    let mut room = MOST_STATES / (parts + 1);
+    let mut lives = vec![];
+    for _ in 0..parts {
+        let most = if r.below(3) == 0 { 20 } else { 4 };
+        let life = 1 + r.below(room.min(most));
+        room /= life;
+        lives.push(life);
+    }
+    lives
+}
+
+// Any threshold, with hazards of which about as many are too great for it as are not; one in four is met exactly.
 fn random_chain(r: &mut Rng) -> String {
-    let parts = 1 + r.below(5) as usize;
-    let mut t = format!(
-        "kind=chain\nparts={parts}\nthreshold={}\nsetup={}\nalarm={}\n",
-        r.below(9000),
-        r.below(2000),
-        r.below(500)
-    );
-    for i in 1..=parts {
-        let most = if parts > 3 { 3 } else { 6 };
-        let life = 1 + r.below(most);
-        let hazards: Vec<String> = (0..life).map(|_| r.below(2500).to_string()).collect();
-        t += &format!(
+    let parts = 1 + r.below(6);
+    let mut threshold = r.below(TEN_THOUSAND + 1);
+    let usual = (TEN_THOUSAND - threshold) * 3 / (2 * parts) + 1;
+    let lives = random_lives(r, parts);
+    let mut survival = TEN_THOUSAND as i64;
+    let mut text = String::new();
+    for (i, life) in (1..).zip(&lives) {
+        let hazards: Vec<u64> = (0..*life).map(|age| r.below(usual + usual * age / 3).min(TEN_THOUSAND)).collect();
+        survival -= hazards[0] as i64;
+        let hazards: Vec<String> = hazards.iter().map(|h| h.to_string()).collect();
+        text += &format!(
             "part={i}\nlife={life}\nhazard={}\nsurplus={}\ndark={}\n",
             hazards.join(","),
-            r.below(3000),
-            r.below(10001)
+            cents(r, 3000),
+            r.below(TEN_THOUSAND + 1)
         );
+    }
+    if survival >= 0 && r.below(4) == 0 {
+        threshold = survival as u64;
     }
     for from in 0..=parts {
         for to in 1..=parts {
-            if from != to && (from == 0 && r.below(4) > 0 || r.below(2) == 0) {
-                t += &format!("arc={from},{to},{}\n", r.below(900));
+            if from != to && r.below(8) < if from == 0 { 7 } else { 4 } {
+                text += &format!("arc={from},{to},{}\n", cents(r, 900));
             }
         }
     }
-    t + "end=plant\n"
+    let (setup, alarm) = (cents(r, 2000), cents(r, 500));
+    format!("kind=chain\nparts={parts}\nthreshold={threshold}\nsetup={setup}\nalarm={alarm}\n{text}end=plant\n")
 }
 
+// A row of hundredths from grade `g`, and how many of them stay below the failed grade.
+fn random_row(r: &mut Rng, g: usize, grades: usize) -> (Vec<u64>, u64) {
+    let mut left = 100;
+    let mut row = vec![0; grades];
+    for h in g - 1..grades - 1 {
+        row[h] = r.below(left + 1);
+        left -= row[h];
+    }
+    row[grades - 1] = left;
+    (row, 100 - left)
+}
+
+// Any threshold; one in four is the survival after both are renewed, and one in four is not above it.
 fn random_pair(r: &mut Rng) -> String {
-    let mut t = format!("kind=pair\nthreshold={}\nsetup={}\ninspect={}\n", r.below(9000), r.below(2000), r.below(300));
+    let mut survival = 1;
+    let mut text = String::new();
     for u in 1..=2 {
         let grades = 2 + r.below(7) as usize;
-        t += &format!("unit={u}\ngrades={grades}\n");
+        text += &format!("unit={u}\ngrades={grades}\n");
         for g in 1..grades {
-            let mut left = 100;
-            let mut row = vec![0; grades];
-            for h in g - 1..grades - 1 {
-                row[h] = r.below(left + 1);
-                left -= row[h];
+            let (row, staying) = random_row(r, g, grades);
+            if g == 1 {
+                survival *= staying;
             }
-            row[grades - 1] = left;
             let row: Vec<String> = row.iter().map(|x| x.to_string()).collect();
-            t += &format!("row={}\n", row.join(","));
+            text += &format!("row={}\n", row.join(","));
         }
-        t += &format!("planned={}\nforced={}\ndark={}\n", r.below(5000), r.below(9000), r.below(5001));
+        text += &format!("planned={}\nforced={}\ndark={}\n", cents(r, 5000), cents(r, 9000), r.below(5001));
     }
-    t + "end=plant\n"
+    let threshold = match r.below(4) {
+        0 => survival,
+        1 => r.below(survival + 1),
+        _ => r.below(TEN_THOUSAND + 1),
+    };
+    let (setup, inspect) = (cents(r, 2000), cents(r, 300));
+    format!("kind=pair\nthreshold={threshold}\nsetup={setup}\ninspect={inspect}\n{text}end=plant\n")
 }
 
 // What a pair of state and portfolio answers: seconds, cents and the outcomes, or nothing where it is not feasible.
@@ -250,7 +293,7 @@ fn pair(lines: &[(String, String)]) -> Plant {
 
 // Whether the plant may be made: few enough states, and everything can be renewed.
 fn refusal(plant: &Plant, line: usize) -> Option<String> {
-    if plant.states > 4096 {
+    if plant.states > MOST_STATES {
         return Some(format!("refused=4,{line}"));
     }
     if (plant.ask)(0, plant.portfolios - 1).is_none() {
@@ -259,28 +302,45 @@ fn refusal(plant: &Plant, line: usize) -> Option<String> {
     None
 }
 
-fn ask(text: &str) {
+// The numbers to ask for: 0 up to the first that is out of range, and the greatest that there is.
+fn asked(count: u64) -> impl Iterator<Item = u64> {
+    (0..=count).chain([u64::MAX])
+}
+
+fn tell(out: &mut impl Write, s: u64, x: u64, answer: Answer) -> std::io::Result<()> {
+    let outcomes = match answer {
+        Some((seconds, cents, outcomes)) => {
+            writeln!(out, "{s} {x} true {seconds} {cents} {}", outcomes.len())?;
+            outcomes
+        }
+        None => {
+            writeln!(out, "{s} {x} false absent 0")?;
+            vec![]
+        }
+    };
+    for k in asked(outcomes.len() as u64) {
+        match outcomes.get(k as usize) {
+            Some((next, weight)) => writeln!(out, " {k} {next} {weight}")?,
+            None => writeln!(out, " {k} absent")?,
+        }
+    }
+    Ok(())
+}
+
+fn ask(text: &str) -> std::io::Result<()> {
+    let mut out = BufWriter::new(std::io::stdout().lock());
     let lines = pairs_of(text);
     let plant = if lines[0].1 == "chain" { chain(&lines) } else { pair(&lines) };
     if let Some(refused) = refusal(&plant, lines.len()) {
-        println!("{refused}");
-        return;
+        return writeln!(out, "{refused}");
     }
-    println!("{} states, {} portfolios", plant.states, plant.portfolios);
-    for s in 0..=plant.states {
-        for x in 0..=plant.portfolios {
-            match (plant.ask)(s, x) {
-                Some((seconds, cents, outcomes)) => {
-                    println!("{s} {x} true {seconds} {cents} {}", outcomes.len());
-                    for (k, (next, weight)) in outcomes.iter().enumerate() {
-                        println!(" {k} {next} {weight}");
-                    }
-                    println!(" {} absent", outcomes.len());
-                }
-                None => println!("{s} {x} false absent 0\n 0 absent"),
-            }
+    writeln!(out, "{} states, {} portfolios", plant.states, plant.portfolios)?;
+    for s in asked(plant.states) {
+        for x in asked(plant.portfolios) {
+            tell(&mut out, s, x, (plant.ask)(s, x))?;
         }
     }
+    out.flush()
 }
 
 fn main() {
@@ -295,7 +355,7 @@ fn main() {
         Some("ask") => {
             let mut text = String::new();
             std::io::stdin().read_to_string(&mut text).unwrap();
-            ask(&text);
+            ask(&text).unwrap();
         }
         _ => eprintln!("usage: reference make SEED | reference ask"),
     }

@@ -1,4 +1,4 @@
-// Asks a plant every question, in range and just beyond, and writes the answers: for comparison with another program.
+// Asks a plant every question, in range, just beyond and far beyond, and writes the answers: for comparison with another program.
 #![tactic(auto)]
 
 use chain::plant::Chain;
@@ -19,7 +19,26 @@ enum AnyPlant {
     Pair(Pair),
 }
 
-// The answers for one pair of state and portfolio: feasible, the bill, the number of outcomes, and each outcome.
+// The greatest number that can be asked for.
+const HUGE: usize = usize::MAX;
+
+// One outcome, or that there is none of this number.
+fn tell_outcome<P: Plant>(
+    rt: &HostRuntime,
+    plant: &P,
+    state: usize,
+    portfolio: usize,
+    k: usize,
+) -> anyhow::Result<()> {
+    match plant.outcome(state, portfolio, k) {
+        Some(Outcome { next, weight }) => println!(rt; " {k} {next} {weight}")?,
+        None => println!(rt; " {k} absent")?,
+    }
+    Ok(())
+}
+
+// The answers for one pair of state and portfolio: feasible, the bill, the number of outcomes, each outcome, and two
+// that there are not.
 fn tell_pair<P: Plant>(
     rt: &HostRuntime,
     plant: &P,
@@ -35,25 +54,28 @@ fn tell_pair<P: Plant>(
         None => println!(rt; "{state} {portfolio} {feasible} absent {count}")?,
     }
     for k in 0..=count {
-        match plant.outcome(state, portfolio, k) {
-            Some(Outcome { next, weight }) => println!(rt; " {k} {next} {weight}")?,
-            None => println!(rt; " {k} absent")?,
-        }
+        tell_outcome(rt, plant, state, portfolio, k)?;
     }
-    Ok(())
+    tell_outcome(rt, plant, state, portfolio, HUGE)
 }
 
-// All pairs, and those with the first numbers out of range.
+// All portfolios of a state, and two that there are not.
+fn tell_state<P: Plant>(rt: &HostRuntime, plant: &P, state: usize) -> anyhow::Result<()> {
+    for portfolio in 0..=plant.portfolios() {
+        tell_pair(rt, plant, state, portfolio)?;
+    }
+    tell_pair(rt, plant, state, HUGE)
+}
+
+// All states, and two that there are not.
 fn tell_plant<P: Plant>(rt: &HostRuntime, plant: &P) -> anyhow::Result<()> {
     let states = plant.states();
     let portfolios = plant.portfolios();
     println!(rt; "{states} states, {portfolios} portfolios")?;
     for state in 0..=states {
-        for portfolio in 0..=portfolios {
-            tell_pair(rt, plant, state, portfolio)?;
-        }
+        tell_state(rt, plant, state)?;
     }
-    Ok(())
+    tell_state(rt, plant, HUGE)
 }
 
 fn read_plant(text: &[u8]) -> Result<AnyPlant, ReadRefusal> {
