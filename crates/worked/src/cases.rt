@@ -429,7 +429,7 @@ pub(crate) const EDITS: [Edit; 70] = [
         output: "refused=2,4",
     },
     Edit {
-        name: "two lines in the wrong order",
+        name: "a line before its turn",
         line: 4,
         text: b"alarm=0\nsetup=100\n",
         output: "refused=2,4",
