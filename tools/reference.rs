@@ -26,7 +26,11 @@ impl Rng {
 
 // Cents of a line: now and then the most there may be.
 fn cents(r: &mut Rng, usual: u64) -> u64 {
-    if r.below(12) == 0 { MOST_CENTS } else { r.below(usual) }
+    if r.below(12) == 0 {
+        MOST_CENTS
+    } else {
+        r.below(usual)
+    }
 }
 
 // Lives of at most 20 windows, few enough for 4,096 states.
@@ -42,7 +46,16 @@ fn random_lives(r: &mut Rng, parts: u64) -> Vec<u64> {
     lives
 }
 
-// Any threshold, with hazards of which about as many are too great for it as are not; one in four is met exactly.
+// The threshold that a survival of `met` meets exactly, the one that it just misses, or else `other`.
+fn near(r: &mut Rng, met: u64, other: u64) -> u64 {
+    match r.below(8) {
+        0 | 1 => met,
+        2 => met + 1,
+        _ => other,
+    }
+}
+
+// Any threshold, with hazards most of which are not too great for it; or one that full renewal just meets or just misses.
 fn random_chain(r: &mut Rng) -> String {
     let parts = 1 + r.below(6);
     let mut threshold = r.below(TEN_THOUSAND + 1);
@@ -61,8 +74,8 @@ fn random_chain(r: &mut Rng) -> String {
             r.below(TEN_THOUSAND + 1)
         );
     }
-    if survival >= 0 && r.below(4) == 0 {
-        threshold = survival as u64;
+    if survival >= 0 {
+        threshold = near(r, survival as u64, threshold).min(TEN_THOUSAND);
     }
     for from in 0..=parts {
         for to in 1..=parts {
@@ -87,7 +100,7 @@ fn random_row(r: &mut Rng, g: usize, grades: usize) -> (Vec<u64>, u64) {
     (row, 100 - left)
 }
 
-// Any threshold; one in four is the survival after both are renewed, and one in four is not above it.
+// Any threshold, or one that full renewal meets, just meets or just misses.
 fn random_pair(r: &mut Rng) -> String {
     let mut survival = 1;
     let mut text = String::new();
@@ -104,11 +117,9 @@ fn random_pair(r: &mut Rng) -> String {
         }
         text += &format!("planned={}\nforced={}\ndark={}\n", cents(r, 5000), cents(r, 9000), r.below(5001));
     }
-    let threshold = match r.below(4) {
-        0 => survival,
-        1 => r.below(survival + 1),
-        _ => r.below(TEN_THOUSAND + 1),
-    };
+    let most = if r.below(2) == 0 { survival } else { TEN_THOUSAND };
+    let other = r.below(most + 1);
+    let threshold = near(r, survival, other).min(TEN_THOUSAND);
     let (setup, inspect) = (cents(r, 2000), cents(r, 300));
     format!("kind=pair\nthreshold={threshold}\nsetup={setup}\ninspect={inspect}\n{text}end=plant\n")
 }
