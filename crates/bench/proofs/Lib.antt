@@ -1,2 +1,1 @@
 mod Cuts
-mod Turns

@@ -1,14 +1,7 @@
-use Rattle.std.proofs.Common.{◌≡◌, sym, ap, ◌∙◌, arith}
+use Rattle.std.proofs.Common.{◌≡◌, ap, ◌∙◌, arith}
 use Rattle.bench.specs.Asking.{pair_asked, state_asked}
 use Rattle.bench.specs.Digests.{in_turn}
-use Rattle.bench.proofs.Turns.{in_turn_more}
 use Rattle.bench.proofs.asking.ask_state.Goals as goal
-
-pub loop-portfolio-preserved : goal.loop-portfolio-preserved
-loop-portfolio-preserved g c =
-    let step = pair_asked (g.P.Plant.model c.args.plant.now) c.args.state in
-    let x = c.loop-portfolio.portfolio in
-    c.ask_pair-digest.ensures ∙ ap (step x) c.loop-portfolio.invariant ∙ sym (in_turn_more step x c.args.before)
 
 pub returns : goal.returns
 unfolding state_asked
