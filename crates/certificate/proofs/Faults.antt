@@ -46,9 +46,6 @@ each_same p q h zero = refl
 each_same p q h (suc n) = ap (λ z. z && p n) (each_same p q h n) ∙ ap (λ z. each q n && z) (h n)
 
 module _ (p : ℕ → Bool) where
-  pub each_more : (n : ℕ) → each p n ≡ true → p n ≡ true → each p (n + 1) ≡ true
-  each_more n h e = rw add-one (and_from (each p n) (p n) h e)
-
   pub each_at : (n k : ℕ) → each p n ≡ true → k < n → p k ≡ true
   each_at zero k h l = absurd (omega arith)
   each_at (suc n) k h l = ⊎_elim

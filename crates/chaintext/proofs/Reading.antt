@@ -1,9 +1,8 @@
--- Lines that are taken shorten the text, and lines that are refused say why.
-use Rattle.std.proofs.Common.{◌≡◌, ℕ, ◌+◌, ◌<◌, List, length, Ok, Err, MatchResult, Result, sym, refl, ap, ◌∙◌, subst, arith}
+-- What a line that is taken goes on to, and why one is refused.
+use Rattle.std.proofs.Common.{◌≡◌, ℕ, ◌+◌, List, Ok, Err, MatchResult, Result, sym, refl, ap, ◌∙◌, subst, arith}
 use Rattle.lines.specs.Line.{Said, pair, fault, line_at, rest_at, taken}
 use Rattle.std.proofs.lemmas.Result.{err_from_is_err_and}
 use Rattle.std.specs.Result.{IsErrAnd}
-use Rattle.lines.proofs.LineLaws.{rest_shorter}
 use Rattle.reading.specs.declared.rules.ReadRefusal.{ReadRefusal}
 use Rattle.reading.specs.declared.rules.Rule.{Rule}
 use Rattle.chaintext.specs.declared.reader.ChainReader.{ChainReader}
@@ -33,13 +32,6 @@ took_on (Ok d) old new (Ok u) q x P is m h = ap Ok (sym h)
 took_on (Ok d) old new (Err e) q x P is m h = absurd h
 took_on (Err y) old new (Ok u) q x P is m h = absurd h
 took_on (Err y) old new (Err e) q x P is m h = let p = err_from_is_err_and q m in let same : Ok x ≡ Err p.0 = sym is ∙ p.1 in let z : ◌≡◌ {A = ℕ} 0 1 = cc in absurd (omega arith)
-
-pub shorter : (d e : ChainReader) (text : List ℕ) → line_step d (line_at text) ≡ Ok e → length (rest_at text) < length text
-shorter d e text h = by_line (line_at text) refl h
-  where
-    by_line : (l : Said) → line_at text ≡ l → line_step d l ≡ Ok e → length (rest_at text) < length text
-    by_line (pair k v) q h = omega (arith, rest_shorter text k v q)
-    by_line (fault n) q h = let z : ◌≡◌ {A = ℕ} 0 1 = cc in absurd (omega arith)
 
 pub one_taken : (d e : ChainReader) (l : Said) → line_step d l ≡ Ok e → taken l ≡ 1
 one_taken d e (pair k v) h = refl
