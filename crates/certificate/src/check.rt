@@ -147,6 +147,7 @@ pub fn check<P: Plant, T: Tariff>(
     ensures exact { ExactlySound T.Tariff.row (P.model plant.now) (T.scale tariff.now) (map T.Tariff.row values.now) policy.now claims.low claims.high result }
 {
     certificate_holds(plant, tariff, values, policy, claims)?;
+    // A plant has a state, so a table that holds has a value: no absence is refused here.
     let top = finding::extreme(Aim::Greatest, tariff, values).ok_or(Refusal::WrongLength)?;
     let bottom = finding::extreme(Aim::Least, tariff, values).ok_or(Refusal::WrongLength)?;
     Ok(Finding {

@@ -102,6 +102,7 @@ pub fn recipe<P: Plant, T: Tariff>(
         tariff,
         table,
     };
+    // A plant has a state, and each of its states a feasible portfolio: no absence is refused here.
     let low = lowest(&valued).ok_or(Refusal::WrongLength)?;
     let high = highest(&valued, policy).ok_or(Refusal::WrongLength)?;
     Ok(Claims {

@@ -26,6 +26,7 @@ fn text_of_plan<P: Plant, T: Tariff>(
     ensures { Answered (PlansAs (P.model plant.now) (T.scale tariff.now) sweeps.named) (Unit {0}) result }
 {
     let planned = plan(plant, tariff, sweeps.named.count, values, working, policy);
+    // The sweeps are few and the tables long enough: a value beyond reach is all that is refused here.
     let claims = planned.map_err(|_| Refusal::BeyondReach(sweeps.named.line))?;
     let mut text = Vec::new(heap);
     push_plan(tariff, values, policy, claims, &mut text)?;
