@@ -11,7 +11,8 @@ use interface::plant::Plant;
 use interface::tariff::Tariff;
 
 // A plant and a tariff with a value table within reach. It is lent to whatever asks for gains and look-aheads, which are
-// there for the feasible portfolios and for no others.
+// there for the feasible portfolios and for no others. It is made as a literal where the reach is known: a constructor would
+// ask for that in a requires, which no function that is public to other crates may.
 #[derive(Drop)]
 pub struct ValuedPlant<'a, P: Plant, T: Tariff> {
     pub plant: &'a P,
