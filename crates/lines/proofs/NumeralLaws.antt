@@ -137,3 +137,6 @@ signed_minus s o e h = ap negated (h ∙ ap (λ t. numeral t (2 ^ 63)) (take_res
 -- a number's text is read back
 pub numeral_decimal : (n most : ℕ) → most < 2 ^ 64 → n ≤ most → numeral (decimal n) most ≡ Some n
 numeral_decimal n most fits low = (numeral_law (decimal n) most fits n).1 (refl, low)
+
+pub numeral_of_signed : (s : List ℕ) (z : ℤ) → signed_numeral s ≡ Some z → s ≡ signed_decimal z
+numeral_of_signed s z e = ((signed_law s z).0 e).0

@@ -1,9 +1,16 @@
 -- Texts put into space.
 use Rattle.std.proofs.Common.{◌≡◌, ℕ, ◌+◌, ◌-◌, ◌≤◌, Bool, true, false, cond, List, ◌++◌, length, take, drop, Some, None, sym, refl, ap, ◌∙◌, arith}
+use borrow.Rule.Slice.PartMut.{put_mid}
 use Rattle.std.specs.List.{between}
-use Rattle.std.proofs.lemmas.List.{length-take-le, take_at, drop_at}
+use Rattle.std.proofs.lemmas.List.{length-take-le, take_at, drop_at, drop-drop}
 use Rattle.std.proofs.lemmas.Bool.{leb-true}
 use Rattle.lines.specs.Placed.{fits, with_text, end_of, placed}
+
+-- what a write to a part of the space leaves
+pub put_mid_here : (text space ys : List ℕ) (at k : ℕ) → ys ≡ text → k ≡ length text → put_mid at k space ys ≡ with_text text at space
+put_mid_here text space ys at k same long =
+    let back : drop k (drop at space) ≡ drop (at + length text) space = drop-drop k at space ∙ ap (λ m. drop (at + m) space) long in
+    ap (λ t. take at space ++ t) (λ i. same i ++ back i)
 
 -- where a text was put, and what that says
 fitted : (text space : List ℕ) (at e : ℕ) → end_of text at space ≡ Some e → (e ≡ at + length text) × (e ≤ length space) × (placed text at space ≡ with_text text at space)
