@@ -40,7 +40,7 @@ pub fn first_field<'a>(text: &'a [u8]) -> FirstField<'a>
 }
 
 // The fields of a text that are still to be read.
-#[derive(Drop)]
+#[derive(Clone, Copy)]
 pub struct Fields<'a> {
     rest: Option<&'a [u8]>,
 }
