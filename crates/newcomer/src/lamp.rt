@@ -9,6 +9,11 @@ ghost use Rattle.newcomer.specs.LampPlantLemmas.{way_out};
 use interface::limits::WHOLE;
 use interface::plant::{Bill, Outcome, Plant};
 
+const STATES: usize = 2;
+
+const PORTFOLIOS: usize = 2;
+
+// The states and the portfolios are numbers: by numbers a plant is asked, also by those out of range.
 const LIT: usize = 0;
 
 const DARK: usize = 1;
@@ -52,15 +57,15 @@ impl Plant for Lamp {
         } };
 
     fn states(&self) -> usize {
-        2
+        STATES
     }
 
     fn portfolios(&self) -> usize {
-        2
+        PORTFOLIOS
     }
 
     fn feasible(&self, state: usize, portfolio: usize) -> bool {
-        state <= DARK && (portfolio == REPLACE || portfolio == LEAVE && state == LIT)
+        matches!((state, portfolio), (LIT, LEAVE | REPLACE) | (DARK, REPLACE))
     }
 
     fn bill(&self, state: usize, portfolio: usize) -> Option<Bill> {
