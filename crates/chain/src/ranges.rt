@@ -21,7 +21,7 @@ impl Part {
     pub fn in_range(&self) -> bool
         ensures { Decides result (LawfulPart self.now) }
     {
-        if self.life < 1 || self.life > MOST_LIFE {
+        if !(1..=MOST_LIFE).contains(&self.life) {
             return false;
         }
         if self.surplus > MOST_CHARGE || self.dark > MOST_DARK {
@@ -51,7 +51,7 @@ impl ChainNumbers {
     pub fn in_range(&self) -> bool
         ensures { Decides result (LawfulNumbers self.now) }
     {
-        if self.count < 1 || self.count > MAX_PARTS || self.arc_count > MOST_ARCS {
+        if !(1..=MAX_PARTS).contains(&self.count) || self.arc_count > MOST_ARCS {
             return false;
         }
         if self.threshold > MOST_THRESHOLD || self.setup > MOST_CHARGE || self.alarm > MOST_CHARGE {

@@ -8,10 +8,11 @@ use workorder::MAX_PARTS;
 
 #[derive(Clone, Copy)]
 pub struct ChainState {
-    // The age of part i, from 1, is at index i - 1; what lies beyond the chain's parts is ignored, as in its numbers.
+    // The age of part i, from 1, is at index i - 1; what lies beyond the chain's parts is ignored, as in its numbers. The
+    // table is fixed for the reason there: a caller fills it without memory.
     pub ages: [usize; MAX_PARTS],
-    // The failed part, numbered from 1 as the parts are, or 0 for none, as the subject numbers it. An Option would be no
-    // plainer: it would allow Some(0), which is one more value to refuse.
+    // The failed part, or 0 for none. Parts are numbered from 1, as in texts and arcs too. An Option would be no plainer: it
+    // would allow Some(0), which is one more value to refuse.
     pub failed: usize,
 }
 
@@ -63,7 +64,7 @@ impl Chain {
         let mut total = 0;
         let mut width = 1;
         for (part, &age) in self.numbers.parts().iter().zip(&state.ages) {
-            if age < 1 || age > part.life {
+            if !(1..=part.life).contains(&age) {
                 return None;
             }
             total += (age - 1) * width;

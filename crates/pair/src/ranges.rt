@@ -43,7 +43,7 @@ impl UnitNumbers {
     pub fn in_range(&self) -> bool
         ensures { Decides result (LawfulUnit self.now) }
     {
-        if self.grades < LEAST_GRADES || self.grades > MOST_GRADES {
+        if !(LEAST_GRADES..=MOST_GRADES).contains(&self.grades) {
             return false;
         }
         if self.planned > MOST_CHARGE || self.forced > MOST_CHARGE || self.dark > MOST_DARK {

@@ -64,7 +64,7 @@ impl UnitNumbers {
     pub(crate) fn has_grade(&self, grade: usize) -> bool
         ensures { result ≡ has_grade self.now grade }
     {
-        1 <= grade && grade <= self.grades
+        (1..=self.grades).contains(&grade)
     }
 
     fn is_failed(&self, grade: usize) -> bool

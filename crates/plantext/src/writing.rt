@@ -32,7 +32,7 @@ impl<'a, A: Copy> PlanView<'a, A> {
         ensures ok { IfOk result (λ p. (p.values.now ≡ values.now) × (p.policy.now ≡ policy.now) × (p.claims ≡ claims)) }
         ensures err { IfErr result (λ e. e ≡ LineRefusal.WrongLength) }
     {
-        if policy.len() == values.len() && values.len() >= 1 && values.len() <= MOST_STATES {
+        if policy.len() == values.len() && (1..=MOST_STATES).contains(&values.len()) {
             Ok(PlanView {
                 values,
                 policy,

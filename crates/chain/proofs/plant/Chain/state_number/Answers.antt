@@ -2,7 +2,7 @@ use Rattle.std.proofs.Common.{◌≡◌, ◌+◌, ◌-◌, ◌*◌, ◌<◌, ◌
 use Rattle.chain.proofs.Counting.{Counted, all_counted, count_more, not_counted, number_fits, total_fits, width_fits}
 use Rattle.chain.proofs.Places.{life_at}
 use Rattle.chain.proofs.plant.Chain.state_number.Goals as goal
-use Rattle.chain.proofs.plant.Chain.state_number.Goals.{In-Some, Else-age-part, then-age-lt1-via-then-age-lt1, then-age-lt1-via-else-age-lt1+then-age-part}
+use Rattle.chain.proofs.plant.Chain.state_number.Goals.{In-Some, Else-not-contains}
 use Rattle.chain.specs.LawsLemmas.{lives_in_range}
 use Rattle.chain.specs.Parts.{blank, life}
 use Rattle.chain.specs.RoundTrips.{without_loss}
@@ -20,44 +20,41 @@ turned c =
 pub returns-then-state-self-clause-kept : goal.returns-then-state-self-clause-kept
 returns-then-state-self-clause-kept c = let p = c.args.self.now in without_loss p.numbers p.ranges.terms (lives_in_range p.numbers p.ranges)
 
-pub returns-then-age-lt1 : goal.returns-then-age-lt1
-returns-then-age-lt1 c =
+pub returns-then-not-contains : goal.returns-then-not-contains
+returns-then-not-contains c =
     let p = c.args.self.now in
-    let here = turned (goal.at.returns-then-age-lt1 c).In-Some in
+    let here = turned (goal.at.returns-then-not-contains c).In-Some in
     record {
-      value = not_counted p.numbers c.args.state.now (length c.loop-part.yielded) _ c.in-Some.field-0-1.now here.0 here.1 here.2 (λ some most. elim c.then-age-lt1.branch [
-        | then-age-lt1-via-then-age-lt1 w ↦ omega (arith, w.if-age-lt1.true)
-        | then-age-lt1-via-else-age-lt1+then-age-part w ↦ omega (arith, w.if-age-part.true)
-      ]);
+      value = not_counted p.numbers c.args.state.now (length c.loop-part.yielded) _ c.in-Some.field-0-1.now here.0 here.1 here.2 (λ some most. grind arith);
       kept = without_loss p.numbers p.ranges.terms (lives_in_range p.numbers p.ranges);
     }
 
 -- with the part of this turn
-turn : (c : goal.Else-age-part) → let i = length c.loop-part.yielded + 1 in Counted c.args.self.now.numbers c.args.state.now i (c.loop-part.total + (c.in-Some.field-0-1.now - 1) * c.loop-part.width) (c.loop-part.width * c.in-Some.part.now.life) × (i ≤ c.args.self.now.numbers.count)
+turn : (c : goal.Else-not-contains) → let i = length c.loop-part.yielded + 1 in Counted c.args.self.now.numbers c.args.state.now i (c.loop-part.total + (c.in-Some.field-0-1.now - 1) * c.loop-part.width) (c.loop-part.width * c.in-Some.part.now.life) × (i ≤ c.args.self.now.numbers.count)
 turn c =
-    let here = turned (goal.at.Else-age-part c).In-Some in
-    (count_more c.args.self.now.numbers c.args.state.now (length c.loop-part.yielded) c.loop-part.total c.loop-part.width _ _ c.loop-part.invariant here.1 here.2 c.if-age-lt1.false c.if-age-part.false, omega (arith, here.0))
+    let here = turned (goal.at.Else-not-contains c).In-Some in
+    (count_more c.args.self.now.numbers c.args.state.now (length c.loop-part.yielded) c.loop-part.total c.loop-part.width _ _ c.loop-part.invariant here.1 here.2 (grind arith) (grind arith), omega (arith, here.0))
 
 pub overflow_mul-total : goal.overflow_mul-total
 overflow_mul-total c =
     let p = c.args.self.now in
-    let now = turn (goal.at.overflow_mul-total c).Else-age-part in
+    let now = turn (goal.at.overflow_mul-total c).Else-not-contains in
     omega (arith, total_fits p.numbers c.args.state.now p.ranges _ _ _ now.0 now.1)
 
 pub overflow_add-total : goal.overflow_add-total
 overflow_add-total c =
     let p = c.args.self.now in
-    let now = turn (goal.at.overflow_add-total c).Else-age-part in
+    let now = turn (goal.at.overflow_add-total c).Else-not-contains in
     omega (arith, total_fits p.numbers c.args.state.now p.ranges _ _ _ now.0 now.1)
 
 pub overflow_mul-width : goal.overflow_mul-width
 overflow_mul-width c =
     let p = c.args.self.now in
-    let now = turn (goal.at.overflow_mul-width c).Else-age-part in
+    let now = turn (goal.at.overflow_mul-width c).Else-not-contains in
     omega (arith, width_fits p.numbers c.args.state.now p.ranges _ _ _ now.0 now.1)
 
 pub loop-part-preserved : goal.loop-part-preserved
-loop-part-preserved c = rw length-append (turn (goal.at.loop-part-preserved c).Else-age-part).0
+loop-part-preserved c = rw length-append (turn (goal.at.loop-part-preserved c).Else-not-contains).0
 
 -- with all parts
 all : (c : goal.In-None) → Counted c.args.self.now.numbers c.args.state.now c.args.self.now.numbers.count c.loop-part.total c.loop-part.width

@@ -7,6 +7,6 @@ pub returns : goal.returns
 returns c =
     let u = c.args.self.now in
     let test = c.rows_lawful.ensures in (
-      λ e. let rows : WholeRows u × NoReturn u = (rows_decided u).0 (sym test ∙ e) in ((omega arith, omega arith, rows.0), rows.1, omega arith),
+      λ e. let rows : WholeRows u × NoReturn u = (rows_decided u).0 (sym test ∙ e) in ((grind arith, grind arith, rows.0), rows.1, omega arith),
       λ l. test ∙ (rows_decided u).1 (l.0.2, l.1),
     )
