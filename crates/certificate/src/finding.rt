@@ -8,7 +8,8 @@ ghost use Rattle.lookahead.specs.Choices.{pick, good};
 use interface::tariff::Tariff;
 use lookahead::best::{Aim, Choice};
 
-// The claims of the certificate, its first greatest value and its first least.
+// The claims of the certificate, its first greatest value and its first least. They are four single amounts, as a caller
+// reads them: low and high are the claims that came in.
 #[derive(Clone, Copy, PartialEq, Eq, Debug)]
 pub struct Finding<A> {
     pub low: A,

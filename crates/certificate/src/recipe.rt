@@ -17,7 +17,7 @@ use lookahead::best::{Aim, Choice};
 use lookahead::table::ValueTable;
 use lookahead::valued::ValuedPlant;
 
-// Refused by the first state whose portfolio is not feasible.
+// Refused by the first state whose portfolio is not feasible. The index is the state asked, and the place of the refusal.
 fn policy_holds<P: Plant>(plant: &P, policy: &[u16]) -> Result<(), Refusal>
     ensures { result_err result ≡ first_fault (policy_fault (P.model plant.now) policy.now) (length policy.now) }
 {

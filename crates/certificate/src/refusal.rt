@@ -16,6 +16,7 @@ pub enum Refusal {
     HighBroken(usize),
 }
 
+// Two numbers of one refusal, here as in the other crates: as `From` they would be told apart only by the type that is wanted.
 impl Refusal {
     pub fn number(self) -> u32
         ensures { result ≡ number_of self }
