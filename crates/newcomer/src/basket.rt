@@ -111,7 +111,8 @@ impl Tariff for ByBasket {
         contents(a) <= contents(b)
     }
 
-    // The interface has no body for these: an array's length cannot be a trait's constant. What they share is in places.
+    // The interface has no body for these: an array's length cannot be a trait's constant, and as a const parameter of the
+    // trait it would stand in every bound. What they share is in places.
     fn sum(&self, a: Basket, b: Basket) -> Option<Basket> {
         places::sum(a.into(), b.into()).map(Basket::from)
     }

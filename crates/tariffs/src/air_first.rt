@@ -5,14 +5,12 @@ ghost use Rattle.std.proofs.Common.{arith, lit≤, rules};
 ghost use Rattle.std.proofs.lemmas.Int.{ints};
 ghost use Rattle.tariffs.specs.OrdersLemmas.{first_total, first_trans, first_shift};
 
+use crate::THOUSAND;
 use interface::places;
 use interface::plant::Bill;
 use interface::tariff::Tariff;
 
-// A second is 1,000 in the first place, a cent 1,000 in the second.
-const THOUSAND: i64 = 1000;
-
-// An amount of two places, in thousandths of a second and of a cent.
+// An amount of two places, in thousandths of a second and of a cent: a second is 1,000 in the first, a cent 1,000 in the second.
 // An amount is at most another as its fields are compared in this order.
 #[derive(Clone, Copy, PartialEq, Eq, PartialOrd, Ord, Debug)]
 pub struct DarkThenCost {
@@ -92,7 +90,8 @@ impl Tariff for AirFirst {
         a <= b
     }
 
-    // The interface has no body for these: an array's length cannot be a trait's constant. What they share is in places.
+    // The interface has no body for these: an array's length cannot be a trait's constant, and as a const parameter of the
+    // trait it would stand in every bound. What they share is in places.
     fn sum(&self, a: DarkThenCost, b: DarkThenCost) -> Option<DarkThenCost> {
         places::sum(a.into(), b.into()).map(DarkThenCost::from)
     }

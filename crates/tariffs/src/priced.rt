@@ -7,6 +7,7 @@ ghost use Rattle.std.proofs.lemmas.Int.{ints};
 ghost use Rattle.std.proofs.lemmas.Bool.Decides.{nat_tests};
 ghost use Rattle.tariffs.specs.OrdersLemmas.{first_total, first_trans, first_shift};
 
+use crate::THOUSAND;
 use crate::refusal::Unpriced;
 use interface::places;
 use interface::plant::Bill;
@@ -14,9 +15,6 @@ use interface::tariff::Tariff;
 
 // The highest rate of the priced tariff, in cents for one dark second.
 pub const MOST_RATE: u32 = 1000;
-
-// A second is 1,000 times the rate, a cent 1,000.
-const THOUSAND: i64 = 1000;
 
 // An amount of one place, in thousandths of a cent.
 #[derive(Clone, Copy, PartialEq, Eq, PartialOrd, Ord, Debug)]
@@ -103,6 +101,7 @@ impl Tariff for Priced {
         if !bill.lawful() {
             return None;
         }
+        // A second is 1,000 times the rate, a cent 1,000.
         let seconds = i64::from(bill.seconds) * (THOUSAND * i64::from(self.rate));
         let cents = i64::from(bill.cents) * THOUSAND;
         Some(Cost {
@@ -114,7 +113,8 @@ impl Tariff for Priced {
         a <= b
     }
 
-    // The interface has no body for these: an array's length cannot be a trait's constant. What they share is in places.
+    // The interface has no body for these: an array's length cannot be a trait's constant, and as a const parameter of the
+    // trait it would stand in every bound. What they share is in places.
     fn sum(&self, a: Cost, b: Cost) -> Option<Cost> {
         places::sum(a.into(), b.into()).map(Cost::from)
     }
