@@ -33,7 +33,8 @@ pub fn reach<const N: usize>(a: [i64; N]) -> u64
 
 // The sum of two amounts, absent exactly when their reaches together exceed MOST_REACH.
 // It and the difference are the same but for the operator. As one function that is lent the operator they would be no plainer:
-// that no place overflows would have to be asked of any operator, where each shows it here of its own.
+// that no place overflows would have to be asked of any operator, where each shows it here of its own; of a checked operator,
+// that it answers at each place. The array of its answers would be array::try_from_fn's, which asks that N places fit in memory.
 pub fn sum<const N: usize>(a: [i64; N], b: [i64; N]) -> Option<[i64; N]>
     ensures { Answers (λ u. u) result (summable a.entry b.entry) (plus a.entry b.entry) }
 {

@@ -29,6 +29,7 @@ pub struct Outcome {
 }
 
 // A plant: states and portfolios, both numbered from 0. All code above knows a plant by these questions alone.
+// A state and a portfolio stay two numbers: each may be out of range by itself, and the pair is answered all the same.
 pub trait Plant {
     // What the plant means; it answers for every number, also for one out of range.
     ghost model: { Self → Model };
