@@ -3,8 +3,8 @@ ghost use Rattle.std.specs.Prelude.{◌≡◌};
 ghost use Rattle.request.specs.Requests.{kind_named, read_kind};
 ghost use Rattle.request.specs.Writing.{ReadsKind};
 
-use crate::due::value_due;
-use lines::reading::{Lines, Read};
+use crate::due::read_due;
+use lines::reading::Lines;
 use reading::keys::Key;
 use reading::rules::{ReadRefusal, Rule};
 
@@ -35,8 +35,5 @@ pub fn kind_of(text: &[u8]) -> Result<Kind, ReadRefusal>
     ensures value { result ≡ read_kind text.now }
     ensures law { ReadsKind text.now result }
 {
-    let Read { line, place } = Lines::new(text).next_line();
-    value_due(line, Key::Kind)
-        .and_then(Kind::try_from)
-        .map_err(|rule| ReadRefusal { rule, line: place })
+    read_due(Lines::new(text).next_line(), Key::Kind, Kind::try_from)
 }

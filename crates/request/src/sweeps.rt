@@ -4,8 +4,8 @@ ghost use Rattle.lines.specs.Line.{line_at, rest_at, taken};
 ghost use Rattle.request.specs.Writing.{ReadsSweeps, counted};
 ghost use Rattle.request.specs.Requests.{sweeps_of, read_sweeps};
 
-use crate::due::value_due;
-use lines::reading::{Lines, Read};
+use crate::due::read_due;
+use lines::reading::Lines;
 use planner::plan::MOST_SWEEPS;
 use reading::keys::Key;
 use reading::rules::{ReadRefusal, Rule};
@@ -31,9 +31,9 @@ pub fn read_sweeps(lines: &mut Lines) -> Result<SweepsLine, ReadRefusal>
     ensures count { lines.new.place ≡ lines.old.place + taken (line_at lines.old.rest.now) }
     ensures law { ReadsSweeps lines.old.rest.now (counted result) lines.new.rest.now }
 {
-    let Read { line, place } = lines.next_line();
-    value_due(line, Key::Sweeps)
-        .and_then(sweeps_of)
-        .map(|count| SweepsLine { count, line: place })
-        .map_err(|rule| ReadRefusal { rule, line: place })
+    let read = lines.next_line();
+    read_due(read, Key::Sweeps, sweeps_of).map(|count| SweepsLine {
+        count,
+        line: read.place,
+    })
 }

@@ -5,9 +5,9 @@ ghost use Rattle.request.specs.Writing.{ReadsTariff};
 ghost use Rattle.request.specs.Requests.{tariff_of, priced_by, air_first_by, read_tariff};
 ghost use Rattle.lines.specs.Fields.{further};
 
-use crate::due::value_due;
+use crate::due::read_due;
 use lines::cutting::Fields;
-use lines::reading::{Lines, Read};
+use lines::reading::Lines;
 use reading::keys::Key;
 use reading::rules::{ReadRefusal, Rule};
 use reading::values::number_between;
@@ -66,8 +66,5 @@ pub fn read_tariff(lines: &mut Lines) -> Result<TariffChoice, ReadRefusal>
     ensures count { lines.new.place ≡ lines.old.place + taken (line_at lines.old.rest.now) }
     ensures law { ReadsTariff lines.old.rest.now result lines.new.rest.now }
 {
-    let Read { line, place } = lines.next_line();
-    value_due(line, Key::Tariff)
-        .and_then(TariffChoice::try_from)
-        .map_err(|rule| ReadRefusal { rule, line: place })
+    read_due(lines.next_line(), Key::Tariff, TariffChoice::try_from)
 }

@@ -5,5 +5,5 @@ use Rattle.request.proofs.kind.kind_of.Goals as goal
 
 pub returns-clause-law : goal.returns-clause-law
 returns-clause-law c =
-    let value : c.map_err.result ≡ read_kind c.args.text.now = search rules in
+    let value : c.read_due.result ≡ read_kind c.args.text.now = search rules in
     kind_read _ _ value

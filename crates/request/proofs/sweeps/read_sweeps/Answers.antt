@@ -5,5 +5,5 @@ use Rattle.request.proofs.sweeps.read_sweeps.Goals as goal
 
 pub returns-clause-law : goal.returns-clause-law
 returns-clause-law c =
-    let value : c.map_err.result ≡ read_sweeps c.args.lines.now.rest.now c.args.lines.now.place = search rules in
-    sweeps_read _ _ c.args.lines.now.place _ value c.next_line-place.ensures.rest
+    let value : c.map.result ≡ read_sweeps c.args.lines.now.rest.now c.args.lines.now.place = search rules in
+    sweeps_read _ _ c.args.lines.now.place _ value c.next_line-read.ensures.rest

@@ -5,5 +5,5 @@ use Rattle.request.proofs.tariff.read_tariff.Goals as goal
 
 pub returns-clause-law : goal.returns-clause-law
 returns-clause-law c =
-    let value : c.map_err.result ≡ read_tariff c.args.lines.now.rest.now c.args.lines.now.place = search rules in
-    tariff_read _ _ c.args.lines.now.place _ value c.next_line-place.ensures.rest
+    let value : c.read_due.result ≡ read_tariff c.args.lines.now.rest.now c.args.lines.now.place = search rules in
+    tariff_read _ _ c.args.lines.now.place _ value c.next_line.ensures.rest
