@@ -1,5 +1,6 @@
-// The look-ahead and the gain of a portfolio, step by step: what the table's public methods of these names share. In those,
-// that no step is absent under a table within reach is shown at one call; in a body with `?` it would be owed at each return.
+// The look-ahead and the gain of a portfolio, step by step.
+// They are no methods: the table's public methods of these names call them, and show at that one call that no step is absent
+// under a table within reach. In a body with `?` it would be owed at each return.
 ghost use Rattle.std.specs.Prelude.{◌≡◌, map};
 ghost use Rattle.std.specs.Option.{option_map};
 ghost use Rattle.interface.specs.Plants.{outcomes_of};
