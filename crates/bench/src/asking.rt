@@ -12,10 +12,10 @@ fn ask_outcomes<P: Plant>(plant: &P, state: usize, portfolio: usize, before: u64
 {
     let count = plant.outcome_count(state, portfolio);
     let mut digest = mix(before, count as u64);
-    for k in 0..count {
+    for k in 0..=count {
         digest = mix_outcome(digest, plant.outcome(state, portfolio, k));
     }
-    mix_outcome(digest, plant.outcome(state, portfolio, count))
+    digest
 }
 
 // All questions of one pair of state and portfolio.
@@ -31,12 +31,11 @@ fn ask_pair<P: Plant>(plant: &P, state: usize, portfolio: usize, before: u64) ->
 fn ask_state<P: Plant>(plant: &P, state: usize, before: u64) -> u64
     ensures { result ≡ state_asked (P.model plant.now) state before }
 {
-    let portfolios = plant.portfolios();
     let mut digest = before;
-    for portfolio in 0..portfolios {
+    for portfolio in 0..=plant.portfolios() {
         digest = ask_pair(plant, state, portfolio, digest);
     }
-    ask_pair(plant, state, portfolios, digest)
+    digest
 }
 
 // All states, up to one past the last.
@@ -45,10 +44,10 @@ fn ask_plant<P: Plant>(plant: &P, before: u64) -> u64
 {
     let states = plant.states();
     let mut digest = mix(mix(before, states as u64), plant.portfolios() as u64);
-    for state in 0..states {
+    for state in 0..=states {
         digest = ask_state(plant, state, digest);
     }
-    ask_state(plant, states, digest)
+    digest
 }
 
 // The whole, asked so many times.

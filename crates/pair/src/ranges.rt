@@ -37,6 +37,8 @@ impl UnitNumbers {
         requires { self.now.grades ≤ most_grades }
         ensures { result ≡ rows_test self.now }
     {
+        // By grade and not over the rows: a row's grade says how many of its entries have to be 0, and the failed grade's row
+        // is ignored, so a chain over the rows would number and cut them first.
         (1..self.grades).all(|grade| self.row_lawful(grade))
     }
 

@@ -1,14 +1,8 @@
-use Rattle.std.proofs.Common.{◌≡◌, ap, ◌∙◌, arith}
-use Rattle.bench.specs.Asking.{pair_asked, state_asked}
-use Rattle.bench.specs.Digests.{in_turn}
+use Rattle.std.proofs.Common.{arith, rules}
+use Rattle.bench.specs.Asking.{state_asked}
 use Rattle.bench.proofs.asking.ask_state.Goals as goal
 
-pub returns : goal.returns
+-- behind the last portfolio's turn
+pub returns-2 : goal.returns-2
 unfolding state_asked
-returns g c =
-    let m = g.P.Plant.model c.args.plant.now in
-    let step = pair_asked m c.args.state in
-    let all : c.loop-portfolio.portfolio ≡ m.portfolios = omega arith in
-    c.ask_pair.ensures
-    ∙ ap (λ x. step x c.loop-portfolio.digest) c.portfolios-portfolios.ensures
-    ∙ ap (step m.portfolios) (c.loop-portfolio.invariant ∙ ap (λ n. in_turn step n c.args.before) all)
+returns-2 g c = grind (arith, rules)
