@@ -30,8 +30,9 @@ pub struct Head {
     pub alarm: u32,
 }
 
-// The part opened last has the number `opened`; its record is at `opened` - 1, and is lent to be filled. The table is fixed:
-// a reader takes no memory, and there are never more than MAX_PARTS.
+// The part opened last has the number `opened`; its record is at `opened` - 1, and is lent to be filled. The tables of the
+// parts and of the arcs are fixed, each with its count beside it: a reader takes no memory, there are never more than
+// MAX_PARTS or MOST_ARCS, and the reader is Copy, which a list with a count of its own is not.
 #[derive(Clone, Copy)]
 pub struct ChainReader {
     pub stage: Stage,

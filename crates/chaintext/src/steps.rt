@@ -77,7 +77,8 @@ impl ChainReader {
         Ok(())
     }
 
-    // The place of the part opened last in the table.
+    // The place of the part opened last in the table. A method that lends the record itself was tried: of a table of fixed
+    // length the check shows no clause that says what the table ends as, and lent as a slice it tells its caller nothing.
     fn place(&self) -> Option<usize>
         ensures { result ≡ place_of self.now }
     {

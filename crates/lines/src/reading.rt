@@ -21,7 +21,8 @@ pub const BAD_LINE: u8 = 1;
 pub const ENDS_EARLY: u8 = 2;
 
 // A line as a view of its text: the key and the value, or the number of the refusal. It is no Result, and the fault no
-// enum: every reader of the house takes a line in this form, and a fault is its number.
+// enum: each reader makes a refusal of its own type of the fault, which has its number and nothing more to say, as its
+// place stands beside the line (docs/DECISIONS.md, 15).
 #[derive(Clone, Copy)]
 pub enum Line<'a> {
     Pair(&'a [u8], &'a [u8]),

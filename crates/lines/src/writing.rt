@@ -1,5 +1,5 @@
-// Texts and numbers written into lent space. A text that has no room there is not begun. The place is beside the space, as
-// both are the caller's: what writes a line of its own first builds it as a list.
+// Texts and numbers written into lent space. A text that has no room there is not begun. Space and place are the caller's,
+// since nothing here takes memory; what writes a line of its own first builds it as a list.
 ghost use Rattle.std.specs.Prelude.{◌≡◌, decimal};
 ghost use Rattle.std.specs.Fmt.{signed_decimal as signed_text};
 ghost use Rattle.lines.specs.Placed.{end_of, placed};
