@@ -32,7 +32,8 @@ pub struct Head {
 
 // The part opened last has the number `opened`; its record is at `opened` - 1, and is lent to be filled. The tables of the
 // parts and of the arcs are fixed, each with its count beside it: a reader takes no memory, there are never more than
-// MAX_PARTS or MOST_ARCS, and the reader is Copy, which a list with a count of its own is not.
+// MAX_PARTS or MOST_ARCS, and the reader is Copy, which a list with a count of its own is not. ChainNumbers are made of them
+// where the text ends: until then `count` is how many parts are to come, and not how many records are filled.
 #[derive(Clone, Copy)]
 pub struct ChainReader {
     pub stage: Stage,
