@@ -2,7 +2,6 @@
 // with the number and the place of a refusal. What is meant for people goes to standard error.
 #![tactic(auto)]
 
-use anyhow::bail;
 use reading::rules::Rule;
 use reply::answer::{Refusal, Unanswered};
 use reply::replying::reply_to;
@@ -44,7 +43,7 @@ fn run(rt: &HostRuntime) -> anyhow::Result<()> {
             let _ = eprintln!(rt; "{words}");
             println!(rt; "{refusal}")?;
         }
-        Err(Unanswered::NoMemory) => bail!("no memory for the tables and the text of the plan"),
+        Err(no_memory) => return Err(no_memory.into()),
     }
     Ok(())
 }

@@ -80,6 +80,7 @@ impl LineText {
         ensures len { length self.new.bytes.items ≤ length self.old.bytes.items + amount_room }
         ensures held { Held (T.scale tariff.now).places (T.Tariff.row amount) }
     {
+        // By number: a tariff is asked for its places, and there is no slice of them to go over.
         for i in 0..tariff.place_count() {
             self.push_place(tariff.place(amount, i).unwrap(), i);
         }

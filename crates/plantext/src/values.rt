@@ -26,6 +26,7 @@ fn read_places<T: Tariff>(tariff: &T, mut fields: Fields) -> Option<T::Amount>
     ensures { option_map T.Tariff.row result ≡ amount_of (T.scale tariff.now).places (further fields.entry.rest) }
 {
     let mut amount = tariff.zero();
+    // By number: a tariff is asked for its places, and there is no slice of them to go over.
     for i in 0..tariff.place_count() {
         let place = signed(fields.next()?)?;
         amount = tariff.with_place(amount, i, place)?;

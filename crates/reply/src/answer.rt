@@ -1,12 +1,13 @@
 // Why a request is not answered by a plan.
 ghost use Rattle.std.specs.Prelude.{◌≡◌, Some};
-ghost use Rattle.reply.specs.Refusals.{number_of, place_of, refusal_text};
+ghost use Rattle.reply.specs.Refusals.{number_of, place_of, refusal_text, unanswered_text};
 ghost use Rattle.reply.specs.declared.answer.Refusal.TheVariants.{Broken};
 ghost use Rattle.reply.specs.declared.answer.Unanswered.TheVariants.{Refused, NoMemory};
 
 use planner::refusal::Refusal as PlanRefusal;
 use reading::rules::ReadRefusal;
 use std::alloc::AllocError;
+use std::error::Error;
 use std::fmt;
 
 // Why a request has no plan: what its text says.
@@ -59,6 +60,20 @@ pub enum Unanswered {
     // There is no memory for the tables and the text of its plan.
     NoMemory,
 }
+
+// A refusal as its line, and want of memory in words.
+impl fmt::Display for Unanswered {
+    ghost output = { λ e. Some (unanswered_text e) };
+
+    fn fmt<W: fmt::Write>(&self, f: &mut fmt::Formatter<W>) -> fmt::Result {
+        match *self {
+            Self::Refused(refusal) => write!(f, "{refusal}"),
+            Self::NoMemory => write!(f, "no memory for the tables and the text of the plan"),
+        }
+    }
+}
+
+impl Error for Unanswered {}
 
 impl From<Refusal> for Unanswered {
     ghost from_gives = { λ e r. r ≡ Refused e };

@@ -25,6 +25,8 @@ pub(crate) fn push_plan<T: Tariff>(
 {
     // The rows, the lines before them, and the end.
     let count = values.len() + LINES_BEFORE_ROWS + 1;
+    // plan_line takes no memory, so the space of a line is lent to it; and it is asked for the lines by number, as there is
+    // no slice of them to go over.
     let mut space = [0; LINE_ROOM];
     for j in 0..count {
         let written = plan_line(tariff, values, policy, claims, j, &mut space);

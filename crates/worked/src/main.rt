@@ -20,6 +20,7 @@ fn output_of(heap: Global, request: &[u8]) -> anyhow::Result<Vec<u8>> {
             let line = format!(in heap; "{refusal}\n")?;
             Ok(line.into_bytes())
         }
+        // Words of its own: those of Unanswered are of the one plan of a request, and here many plans are made.
         Err(Unanswered::NoMemory) => bail!("no memory for the tables and the text of a plan"),
     }
 }

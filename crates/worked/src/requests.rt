@@ -19,8 +19,8 @@ pub(crate) fn edited(
     other: &[u8],
 ) -> Result<Vec<u8>, AllocError> {
     let mut text = Vec::new(heap);
-    for (i, kept) in lines.iter().enumerate() {
-        if i + 1 == line {
+    for (i, kept) in (1..).zip(lines) {
+        if i == line {
             text.extend_from_slice(other)?;
         } else {
             text.extend_from_slice(kept.as_bytes())?;
