@@ -34,8 +34,8 @@ impl Chain {
         let mut total = 0;
         let mut hazards = 0;
         let mut asked_hazard = 0;
-        // By enumerate, so that the number from 1 is i + 1: as `(1..).zip(..)` each turn would ask the range for its end too, and
-        // the check does not find that a turn's number is one more than the turns before it.
+        // By enumerate: the number from 1 is i + 1. As `(1..).zip(..)` each turn would also test for the end of `1..`, three
+        // instructions more in a loop of this shape, where the benchmarks spend their time.
         for (i, part) in self.numbers.parts().iter().enumerate() {
             let renewed = holds(portfolio, i + 1);
             let start = part.start_age(rest % part.life + 1, renewed)?;
