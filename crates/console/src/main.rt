@@ -37,13 +37,12 @@ fn run(rt: &HostRuntime) -> anyhow::Result<()> {
     let length = text.len();
     let _ = eprintln!(rt; "a request of {length} bytes: reading and planning");
     match reply_to(rt.alloc(), text.as_slice()) {
-        Ok(plan) => rt.stdout().write_all(plan.as_slice())?,
         Err(Unanswered::Refused(refusal)) => {
             let words = InWords(refusal);
             let _ = eprintln!(rt; "{words}");
             println!(rt; "{refusal}")?;
         }
-        Err(no_memory) => return Err(no_memory.into()),
+        answered => rt.stdout().write_all(answered?.as_slice())?,
     }
     Ok(())
 }

@@ -5,24 +5,19 @@
 mod cases;
 mod requests;
 
-use anyhow::{bail, ensure};
+use anyhow::ensure;
 use cases::{EDITS, EXAMPLE, Edit, LARGEST, PAIR, PAIR_EDITS, TWO_PART_EDITS, TWO_PARTS, WHOLE};
 use reply::answer::Unanswered;
 use reply::replying::reply_to;
 use requests::{edited, lines_of};
-use std::alloc::Global;
+use std::alloc::{AllocError, Global};
 
 // What the console writes for a request.
-fn output_of(heap: Global, request: &[u8]) -> anyhow::Result<Vec<u8>> {
-    match reply_to(heap, request) {
-        Ok(plan) => Ok(plan),
-        Err(Unanswered::Refused(refusal)) => {
-            let line = format!(in heap; "{refusal}\n")?;
-            Ok(line.into_bytes())
-        }
-        // Words of its own: those of Unanswered are of the one plan of a request, and here many plans are made.
-        Err(Unanswered::NoMemory) => bail!("no memory for the tables and the text of a plan"),
-    }
+fn output_of(heap: Global, request: &[u8]) -> Result<Vec<u8>, AllocError> {
+    reply_to(heap, request).or_else(|unanswered| match unanswered {
+        Unanswered::Refused(refusal) => Ok(format!(in heap; "{refusal}\n")?.into_bytes()),
+        Unanswered::NoMemory => Err(AllocError),
+    })
 }
 
 // Tells whether the output for a request is as stated, and answers the same. `as_stated` compares it with the lines stated.
