@@ -1,5 +1,5 @@
-// Every question of a plant, for all numbers in range and the first out of range. A plant is asked by numbers, so the loops
-// count them: there is no slice to go over.
+// Every question of a plant, for all numbers in range and the first out of range. A plant is asked by numbers. A fold over
+// them would put each question into a closure, with a clause of its own as in planning's mix_values, and is no plainer.
 ghost use Rattle.std.specs.Prelude.{◌≡◌};
 ghost use Rattle.bench.specs.Asking.{outcomes_asked, pair_asked, state_asked, plant_asked, asked_again};
 

@@ -18,7 +18,8 @@ use planner::refusal::Refusal;
 use tariffs::air_first::AirFirst;
 use tariffs::priced::Priced;
 
-// The digest with all places of an amount. A tariff is asked by numbers: there is no slice of places to go over.
+// The digest with all places of an amount. A tariff is asked for them by numbers: a fold over these would put the question
+// into a closure with a clause of its own, and is no plainer.
 fn mix_amount<T: Tariff>(tariff: &T, before: u64, amount: T::Amount) -> u64
     ensures { result ≡ with_row (T.scale tariff.now).places before (T.Tariff.row amount) }
 {

@@ -13,7 +13,8 @@ const STATES: usize = 2;
 
 const PORTFOLIOS: usize = 2;
 
-// The states and the portfolios are numbers: by numbers a plant is asked, also by those out of range.
+// Numbers, by which a plant is asked. As enums each question would convert two of them first, and the next state back; here
+// one pattern of `feasible` refuses every number out of range.
 const LIT: usize = 0;
 
 const DARK: usize = 1;

@@ -53,6 +53,7 @@ fn tell_pair<P: Plant>(
         }
         None => println!(rt; "{state} {portfolio} {feasible} absent {count}")?,
     }
+    // By number, here and below: a plant is asked so, also past its last.
     for k in 0..=count {
         tell_outcome(rt, plant, state, portfolio, k)?;
     }
