@@ -1,5 +1,5 @@
 // Arithmetic on the places of amounts, for whoever writes a tariff: an amount of N places is an array here, place by place.
-ghost use Rattle.std.specs.Prelude.{◌≡◌, ℕ, ◌+◌, ◌*◌, ◌≤◌, true, false, leb, pos, ◌*ℤ◌, if◌then◌else◌, nat_le, unsigned_abs};
+ghost use Rattle.std.specs.Prelude.{◌≡◌, ℕ, ◌+◌, ◌*◌, ◌≤◌, true, false, leb, pos, ◌*ℤ◌, if◌then◌else◌, nat_le, nat_lt, unsigned_abs, length, slice_get, slice_set};
 ghost use Rattle.std.specs.Option.{SomeIff};
 ghost use Rattle.interface.specs.Limits.{most_reach, most_factor};
 ghost use Rattle.interface.specs.Rows.{plus, minus, times, share, reach};
@@ -90,4 +90,22 @@ pub fn share<const N: usize>(mut a: [i64; N]) -> [i64; N]
         *place = place.div_euclid(i64::from(WHOLE));
     }
     a
+}
+
+// Place i of an amount, absent past the last.
+pub fn place<const N: usize>(a: [i64; N], i: usize) -> Option<i64>
+    ensures { result ≡ slice_get a.entry i }
+{
+    a.get(i).copied()
+}
+
+// The amount with another value in place i, absent past the last.
+pub fn with_place<const N: usize>(mut a: [i64; N], i: usize, value: i64) -> Option<[i64; N]>
+    ensures { Answers (λ u. u) result (nat_lt i (length a.entry)) (slice_set a.entry i value) }
+{
+    if i >= N {
+        return None;
+    }
+    a[i] = value;
+    Some(a)
 }

@@ -111,8 +111,9 @@ impl Tariff for ByBasket {
         contents(a) <= contents(b)
     }
 
-    // The interface has no body for these: an array's length cannot be a trait's constant, and as a const parameter of the
-    // trait it would stand in every bound. What they share is in places.
+    // The interface has no body for these: an array's length cannot be a trait's constant, as a const parameter of the trait it
+    // would stand in every bound, and an associated type of arrays would ask every tariff for two conversions and the law that
+    // they keep its row. What they share is in places.
     fn sum(&self, a: Basket, b: Basket) -> Option<Basket> {
         places::sum(a.into(), b.into()).map(Basket::from)
     }
@@ -134,23 +135,10 @@ impl Tariff for ByBasket {
     }
 
     fn place(&self, a: Basket, i: usize) -> Option<i64> {
-        match i {
-            0 => Some(a.seconds),
-            1 => Some(a.cents),
-            2 => Some(a.fees),
-            _ => None,
-        }
+        places::place(a.into(), i)
     }
 
     fn with_place(&self, a: Basket, i: usize, value: i64) -> Option<Basket> {
-        match i {
-            0 => Some(Basket {
-                seconds: value,
-                ..a
-            }),
-            1 => Some(Basket { cents: value, ..a }),
-            2 => Some(Basket { fees: value, ..a }),
-            _ => None,
-        }
+        places::with_place(a.into(), i, value).map(Basket::from)
     }
 }

@@ -90,8 +90,9 @@ impl Tariff for AirFirst {
         a <= b
     }
 
-    // The interface has no body for these: an array's length cannot be a trait's constant, and as a const parameter of the
-    // trait it would stand in every bound. What they share is in places.
+    // The interface has no body for these: an array's length cannot be a trait's constant, as a const parameter of the trait it
+    // would stand in every bound, and an associated type of arrays would ask every tariff for two conversions and the law that
+    // they keep its row. What they share is in places.
     fn sum(&self, a: DarkThenCost, b: DarkThenCost) -> Option<DarkThenCost> {
         places::sum(a.into(), b.into()).map(DarkThenCost::from)
     }
@@ -113,18 +114,10 @@ impl Tariff for AirFirst {
     }
 
     fn place(&self, a: DarkThenCost, i: usize) -> Option<i64> {
-        match i {
-            0 => Some(a.dark),
-            1 => Some(a.cost),
-            _ => None,
-        }
+        places::place(a.into(), i)
     }
 
     fn with_place(&self, a: DarkThenCost, i: usize, value: i64) -> Option<DarkThenCost> {
-        match i {
-            0 => Some(DarkThenCost { dark: value, ..a }),
-            1 => Some(DarkThenCost { cost: value, ..a }),
-            _ => None,
-        }
+        places::with_place(a.into(), i, value).map(DarkThenCost::from)
     }
 }

@@ -113,8 +113,9 @@ impl Tariff for Priced {
         a <= b
     }
 
-    // The interface has no body for these: an array's length cannot be a trait's constant, and as a const parameter of the
-    // trait it would stand in every bound. What they share is in places.
+    // The interface has no body for these: an array's length cannot be a trait's constant, as a const parameter of the trait it
+    // would stand in every bound, and an associated type of arrays would ask every tariff for two conversions and the law that
+    // they keep its row. What they share is in places.
     fn sum(&self, a: Cost, b: Cost) -> Option<Cost> {
         places::sum(a.into(), b.into()).map(Cost::from)
     }
@@ -136,16 +137,10 @@ impl Tariff for Priced {
     }
 
     fn place(&self, a: Cost, i: usize) -> Option<i64> {
-        match i {
-            0 => Some(a.thousandths),
-            _ => None,
-        }
+        places::place(a.into(), i)
     }
 
     fn with_place(&self, a: Cost, i: usize, value: i64) -> Option<Cost> {
-        match i {
-            0 => Some(Cost { thousandths: value }),
-            _ => None,
-        }
+        places::with_place(a.into(), i, value).map(Cost::from)
     }
 }
