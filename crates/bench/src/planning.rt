@@ -65,6 +65,7 @@ fn tell_plan<T: Tariff>(
     mix_policy(valued, policy)
 }
 
+// A plan in lent tables: each is a slice, as the planner takes it.
 fn plan_into<P: Plant, T: Tariff>(
     plant: &P,
     tariff: &T,

@@ -15,6 +15,7 @@ pub(crate) enum Refused {
     Plan(Refusal),
 }
 
+// Its one number is a method and no From: it is that of the refusal held, where it is a method of this name too.
 impl Refused {
     // Its number among all refusals of the house.
     pub(crate) fn number(self) -> u32

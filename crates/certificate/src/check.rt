@@ -123,6 +123,7 @@ fn certificate_holds<P: Plant, T: Tariff>(
         return Err(Refusal::BeyondReach(plant.states()));
     }
     values_near(tariff, values)?;
+    // As a literal, here where the reach is known: a constructor of ValuedPlant would have to ask for it.
     let table = ValueTable { amounts: values };
     states_hold(
         &ValuedPlant {
@@ -135,7 +136,8 @@ fn certificate_holds<P: Plant, T: Tariff>(
     )
 }
 
-// Accepts exactly the sound certificates: a value table, a policy, and the claims low and high.
+// Accepts exactly the sound certificates: a value table, a policy, and the claims low and high. The tables are lent as to
+// certificate_holds.
 pub fn check<P: Plant, T: Tariff>(
     plant: &P,
     tariff: &T,

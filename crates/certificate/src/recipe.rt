@@ -96,6 +96,7 @@ pub fn recipe<P: Plant, T: Tariff>(
     ensures { Recipe T.Tariff.row (P.model plant.now) (T.scale tariff.now) (map T.Tariff.row values.now) policy.now result }
 {
     inputs_hold(plant, tariff, values, policy)?;
+    // As a literal, as in the check: the reach is known here.
     let table = ValueTable { amounts: values };
     let valued = ValuedPlant {
         plant,

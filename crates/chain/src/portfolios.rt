@@ -12,6 +12,7 @@ use interface::limits::WHOLE;
 use workorder::{PORTFOLIOS, holds};
 
 impl ChainNumbers {
+    // How many there are. The bound of the count is asked for the reason at `parts`.
     pub(crate) fn portfolio_count(&self) -> usize
         requires { self.now.count ≤ max_parts }
         ensures value { result ≡ all_portfolios self.now }

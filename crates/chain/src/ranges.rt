@@ -32,6 +32,7 @@ impl Part {
 }
 
 impl ChainNumbers {
+    // The bound of the count is asked for the reason at `parts`.
     fn parts_in_range(&self) -> bool
         requires { self.now.count ≤ max_parts }
         ensures { Decides result (LawfulParts self.now) }

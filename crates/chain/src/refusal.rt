@@ -12,6 +12,7 @@ pub enum ChainRefusal {
     NoFullRenewal,
 }
 
+// Two numbers of one refusal: as two From they would be told apart only by the type that is wanted.
 impl ChainRefusal {
     // Its number among all refusals of the house.
     pub fn number(self) -> u32

@@ -42,6 +42,8 @@ pub fn number(text: &[u8], most: u64) -> Option<u64>
         return None;
     }
     let mut value = 0;
+    // No plainer as try_fold: the one call would stand in a closure over `most`, and the loop's fact, which is of the digits that
+    // are left, would be owed of the fold's run, which tells of those that were read.
     for digit in text {
         value = push_digit(value, *digit, most)?;
     }

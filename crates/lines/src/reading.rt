@@ -15,7 +15,8 @@ pub const LOWEST_BYTE: u8 = 32;
 
 pub const HIGHEST_BYTE: u8 = 126;
 
-// Refused: the line is too long, has a byte out of range, or no key with an equals sign behind it.
+// Both faults are numbers for the reason at Line. Refused: the line is too long, has a byte out of range, or no key with an
+// equals sign behind it.
 pub const BAD_LINE: u8 = 1;
 // Refused: the text ends before the line does.
 pub const ENDS_EARLY: u8 = 2;

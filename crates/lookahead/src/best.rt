@@ -67,6 +67,9 @@ impl Aim {
         ensures { (rows : ℕ → Option Row) → Asked (F.post ask) T.Tariff.row count rows → option_map (pick T.Tariff.row) result ≡ first_best (good self (T.scale tariff.now)) rows count }
     {
         let mut best = None;
+        // By number: there is no slice to go over. No plainer as filter_map and min_by: the tariff's question is no Ord, so an
+        // Ordering would be made of it. Tried as a fold of `keep`: the check leaves the best open, as `ask` is known by what it
+        // ensures and not as a function.
         for x in 0..count {
             best = self.keep(tariff, best, x, ask(x));
         }

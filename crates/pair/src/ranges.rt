@@ -8,7 +8,8 @@ use crate::limits::{HUNDRED, LEAST_GRADES, MOST_CHARGE, MOST_DARK, MOST_GRADES, 
 use crate::numbers::{PairNumbers, UnitNumbers};
 use crate::units::Rows;
 
-// The hundredths of a row, added up.
+// The hundredths of a row, added up. It asks for a bound of the length, so that the sum fits, and no public function may ask:
+// so the reader of a pair's text has its own test of a row.
 fn total(row: &[u32]) -> u64
     requires { length row.now ≤ most_grades }
     ensures { result ≡ sum row.now }

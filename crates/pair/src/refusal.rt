@@ -10,6 +10,7 @@ pub enum PairRefusal {
     NoFullRenewal,
 }
 
+// Two numbers of one refusal: as two From they would be told apart only by the type that is wanted.
 impl PairRefusal {
     // Its number among all refusals of the house.
     pub fn number(self) -> u32

@@ -13,7 +13,7 @@ use interface::tariff::Tariff;
 pub const MOST_SWEEPS: u32 = 1000;
 
 // Sweeps the value table so many times from zero rows, chooses the policy by it, and claims by the recipe. The three
-// tables are the caller's, each with an entry for each state.
+// tables are the caller's, each with an entry for each state, and are lent one by one for the reason at sweep_into.
 pub fn plan<P: Plant, T: Tariff>(
     plant: &P,
     tariff: &T,

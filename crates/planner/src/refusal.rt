@@ -12,6 +12,7 @@ pub enum Refusal {
     BeyondReach(usize),
 }
 
+// Two numbers of one refusal: as two From they would be told apart only by the type that is wanted.
 impl Refusal {
     pub fn number(self) -> u32
         ensures { result ≡ number_of self }

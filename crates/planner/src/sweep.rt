@@ -61,6 +61,7 @@ fn sweep_into<P: Plant, T: Tariff>(
     requires long { length working.old ≡ (P.model plant.now).states }
     ensures { MatchResult result (λ _. Sweep (P.model plant.now) (T.scale tariff.now) (map T.Tariff.row values.now) (map T.Tariff.row working.new) × Near (map T.Tariff.row working.new)) (λ e. (s : ℕ) × (e ≡ BeyondReach s) × Stuck (P.model plant.now) (T.scale tariff.now) (map T.Tariff.row values.now) s) }
 {
+    // As a literal, where the reach is known, which a constructor would have to ask for in its turn. So also in `choose`.
     let table = ValueTable { amounts: values };
     let valued = ValuedPlant {
         plant,
@@ -108,6 +109,7 @@ pub(crate) fn choose<P: Plant, T: Tariff>(
     requires long { length policy.old ≡ (P.model plant.now).states }
     ensures { Chooses (P.model plant.now) (T.scale tariff.now) (map T.Tariff.row values.now) policy.new }
 {
+    // As a literal, as in `sweep_into`.
     let table = ValueTable { amounts: values };
     let valued = ValuedPlant {
         plant,

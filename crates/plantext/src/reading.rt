@@ -165,7 +165,8 @@ impl<A: Copy> Reader<A> {
     }
 }
 
-// Reads a plan into the tables, which are left as they come where a line is refused.
+// Reads a plan into the tables, which are left as they come where a line is refused. They are lent one by one for the reason
+// at Reader.
 fn read_into<T: Tariff>(
     tariff: &T,
     text: &[u8],

@@ -12,6 +12,7 @@ pub enum LineRefusal {
     NoSpace,
 }
 
+// Two numbers of one refusal: as two From they would be told apart only by the type that is wanted.
 impl LineRefusal {
     pub fn number(self) -> u32
         ensures { result ≡ line_number self }
@@ -43,6 +44,7 @@ pub enum Fault {
     OutOfForm,
 }
 
+// Its one number is a method and no From: it is told by PlanRefusal, which holds it and has a method of this name.
 impl Fault {
     pub fn number(self) -> u32
         ensures { result ≡ fault_number self }
@@ -56,7 +58,8 @@ impl Fault {
 }
 
 // The fault of a line that is none, by its number. The readers of plants tell it by a like test, as a rule of theirs; a
-// plan's text stands on none of them.
+// plan's text stands on none of them. The fault comes as a number, as `lines` tells it: a line that was read is two borrowed
+// slices or its fault, by a rule of the project (docs/DECISIONS.md, 36).
 impl From<u8> for Fault {
     ghost use Rattle.plantext.specs.Reading.{said_fault};
 
@@ -80,6 +83,7 @@ pub enum PlanRefusal {
     WrongLength,
 }
 
+// Two numbers of one refusal: as two From they would be told apart only by the type that is wanted.
 impl PlanRefusal {
     pub fn number(self) -> u32
         ensures { result ≡ plan_number self }

@@ -28,6 +28,7 @@ pub struct ReadRefusal {
     pub line: usize,
 }
 
+// Its one number is a method and no From: it is told by ReadRefusal, which holds it and has a method of this name.
 impl Rule {
     // Its number among all refusals of the house.
     pub fn number(self) -> u32
@@ -44,6 +45,7 @@ impl Rule {
     }
 }
 
+// Two numbers of one refusal: as two From they would be told apart only by the type that is wanted.
 impl ReadRefusal {
     pub fn number(self) -> u32
         ensures { result ≡ number_of self.rule }
@@ -59,6 +61,8 @@ impl ReadRefusal {
 }
 
 // The rule that is broken where no line could be read, by the fault of the line: its own, or else that the text ends early.
+// The fault comes as a number, as `lines` tells it: a line that was read is two borrowed slices or its fault, by a rule of the
+// project (docs/DECISIONS.md, 36). A plan's text has the like for faults of its own, as it stands on no reader.
 impl From<u8> for Rule {
     ghost from_gives = { λ fault rule. rule ≡ fault_rule fault };
 

@@ -19,6 +19,7 @@ pub enum Refusal {
     BeyondReach(usize),
 }
 
+// Two numbers of one refusal: as two From they would be told apart only by the type that is wanted.
 impl Refusal {
     // Its number among all refusals of the house.
     pub fn number(self) -> u32

@@ -8,6 +8,7 @@ pub enum Unpriced {
     RateOutOfRange,
 }
 
+// Two numbers of one refusal: as two From they would be told apart only by the type that is wanted.
 impl Unpriced {
     pub fn number(self) -> u32
         ensures { result ≡ number_of self }
