@@ -12,7 +12,8 @@ pub enum ChainRefusal {
     NoFullRenewal,
 }
 
-// Two numbers of one refusal: as two From they would be told apart only by the type that is wanted.
+// Two numbers of one refusal: as two From they would be told apart only by the type that is wanted. None has a place; a trait that
+// says so for all such refusals would be longer than the match.
 impl ChainRefusal {
     // Its number among all refusals of the house.
     pub fn number(self) -> u32

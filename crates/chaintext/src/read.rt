@@ -46,21 +46,6 @@ impl ChainReader {
         }
     }
 
-    // The numbers that were read.
-    fn numbers(&self) -> ChainNumbers
-        ensures { result ≡ numbers_of self.now }
-    {
-        ChainNumbers {
-            count: self.head.count,
-            threshold: self.head.threshold,
-            setup: self.head.setup,
-            alarm: self.head.alarm,
-            parts: self.parts,
-            arc_count: self.arc_count,
-            arcs: self.arcs,
-        }
-    }
-
     // What the next line does.
     fn take_line(&mut self, line: Line) -> Result<(), Rule>
         ensures { Took (line_step self.old (said line.entry)) self.old self.new result }
@@ -68,6 +53,23 @@ impl ChainReader {
         match line {
             Line::Pair(key, value) => self.step(Key::from(key), value),
             Line::Fault(number) => Err(Rule::from(number)),
+        }
+    }
+}
+
+// The numbers that were read.
+impl From<&ChainReader> for ChainNumbers {
+    ghost from_gives = { λ r n. n ≡ numbers_of r.now };
+
+    fn from(reader: &ChainReader) -> ChainNumbers {
+        ChainNumbers {
+            count: reader.head.count,
+            threshold: reader.head.threshold,
+            setup: reader.head.setup,
+            alarm: reader.head.alarm,
+            parts: reader.parts,
+            arc_count: reader.arc_count,
+            arcs: reader.arcs,
         }
     }
 }
@@ -112,7 +114,7 @@ fn make_chain(complete: Complete) -> Result<Chain, ReadRefusal>
     requires { LawfulNumbers (numbers_of complete.reader) }
     ensures { MadeOf (numbers_of complete.reader) complete.line result }
 {
-    Chain::new(complete.reader.numbers()).map_err(|refusal| ReadRefusal {
+    Chain::new(ChainNumbers::from(&complete.reader)).map_err(|refusal| ReadRefusal {
         rule: rule_for(refusal),
         line: complete.line,
     })

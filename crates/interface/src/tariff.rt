@@ -22,7 +22,10 @@ pub trait Tariff {
 
     // PLACES, for who has a tariff at hand.
     fn place_count(&self) -> usize
-        ensures { result ≡ (scale self.now).places };
+        ensures { result ≡ (scale self.now).places }
+    {
+        Self::PLACES
+    }
 
     fn zero(&self) -> Self::Amount
         ensures { row result ≡ zeros (scale self.now).places };

@@ -27,7 +27,8 @@ fn write_integer<I: Integer>(n: I, out: &mut [u8], at: usize) -> Option<usize>
     write_bytes(Buffer::new().format(n).as_bytes(), out, at)
 }
 
-// A number in base ten.
+// A number in base ten. This and the next are two names of write_integer: as one public function they would be no plainer, as
+// it says in the words of `itoa` what they say in those of a text.
 pub fn write_number(n: u64, out: &mut [u8], at: usize) -> Option<usize>
     ensures end { result ≡ end_of (decimal n) at out.old }
     ensures after { out.new ≡ placed (decimal n) at out.old }

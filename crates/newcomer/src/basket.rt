@@ -83,10 +83,6 @@ impl Tariff for ByBasket {
 
     ghost fits = { Prim.search rules };
 
-    fn place_count(&self) -> usize {
-        Self::PLACES
-    }
-
     fn zero(&self) -> Basket {
         Basket {
             seconds: 0,
@@ -112,8 +108,8 @@ impl Tariff for ByBasket {
     }
 
     // The interface has no body for these: an array's length cannot be a trait's constant, as a const parameter of the trait it
-    // would stand in every bound, and an associated type of arrays would ask every tariff for two conversions and the law that
-    // they keep its row. What they share is in places.
+    // would stand in every bound, and an associated type of arrays with two conversions and their law would be asked of every
+    // tariff, also of one whose amount has no array. What they share is in places.
     fn sum(&self, a: Basket, b: Basket) -> Option<Basket> {
         places::sum(a.into(), b.into()).map(Basket::from)
     }

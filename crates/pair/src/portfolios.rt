@@ -34,6 +34,8 @@ impl TryFrom<usize> for Portfolio {
     }
 }
 
+// A method for each unit: as one that is lent the unit they would be no plainer, since it would ask for an enum of the units,
+// for which this crate, with its fields one and two, has no other use.
 impl Portfolio {
     pub(crate) fn renews_one(self) -> bool
         ensures { result ≡ renews_one (portfolio_number self) }

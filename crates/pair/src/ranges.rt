@@ -25,7 +25,8 @@ pub fn all_zero(hundredths: &[u32]) -> bool
 }
 
 impl UnitNumbers {
-    // Whether the row of a grade adds up and leads to no better grade.
+    // Whether the row of a grade adds up and leads to no better grade. That the grades are few is asked here and of rows_lawful:
+    // it is the first test of in_range, and a struct that holds it would be no plainer, being made for these two calls alone.
     fn row_lawful(&self, grade: usize) -> bool
         requires { (1 ≤ grade) × (grade ≤ most_grades) × (self.now.grades ≤ most_grades) }
         ensures { result ≡ row_test self.now grade }

@@ -18,7 +18,8 @@ pub(crate) struct Row<'a> {
 }
 
 impl<'a> Row<'a> {
-    // The hundredths of a next grade.
+    // The hundredths of a next grade. That the unit has the grade is asked here, in weight and in row_from: Grades are two plain
+    // numbers, which anyone may fill, so a struct with that fact would be no plainer, being made anew for each of these calls.
     pub(crate) fn chance(self, next: usize) -> u32
         requires { HasGrade self.unit.now next }
         ensures value { result ≡ hundredths self.entry.unit.now self.entry.grade next }

@@ -15,6 +15,8 @@ const BLANK_UNIT: UnitNumbers = UnitNumbers {
     dark: 0,
 };
 
+// The records of the units stand in a fixed table, of which the one opened last is filled: a rule of the project
+// (docs/DECISIONS.md, 36). PairNumbers, which have two fields there, are made of the reader where the text ends.
 #[derive(Clone, Copy)]
 pub struct PairReader {
     pub(crate) stage: Stage,

@@ -18,7 +18,8 @@ fn adds_up(row: &[u32], own: usize) -> bool
 }
 
 // The row that `value` lists, with zeros behind its `grades` numbers; absent where it is no such list, does not add
-// up to 100, or has another number than 0 before index `own`.
+// up to 100, or has another number than 0 before index `own`. That the grades are few is asked, as the reader knows it of the
+// unit opened last; a struct with that fact would be no plainer, since the unit's record is a plain one of the crate below.
 pub fn row_of(value: &[u8], grades: usize, own: usize) -> Option<[u32; MOST_GRADES]>
     requires { (grades ≤ most_grades) × (own ≤ most_grades) }
     ensures { result ≡ row_of value.now grades own }

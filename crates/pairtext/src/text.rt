@@ -12,6 +12,21 @@ use pair::numbers::PairNumbers;
 use pair::plant::Pair;
 use reading::rules::{ReadRefusal, Rule};
 
+// The numbers that were read.
+impl From<&PairReader> for PairNumbers {
+    ghost from_gives = { λ r n. n ≡ numbers_read r.now };
+
+    fn from(reader: &PairReader) -> PairNumbers {
+        PairNumbers {
+            threshold: reader.threshold,
+            setup: reader.setup,
+            inspect: reader.inspect,
+            one: reader.units[0],
+            two: reader.units[1],
+        }
+    }
+}
+
 impl PairReader {
     fn is_complete(&self) -> bool
         ensures { result ≡ complete self.now.stage }
@@ -19,24 +34,12 @@ impl PairReader {
         self.stage == Stage::Complete
     }
 
-    fn numbers(&self) -> PairNumbers
-        ensures { result ≡ numbers_read self.now }
-    {
-        PairNumbers {
-            threshold: self.threshold,
-            setup: self.setup,
-            inspect: self.inspect,
-            one: self.units[0],
-            two: self.units[1],
-        }
-    }
-
     // The pair that was read to its last line. Its numbers are in range, so only the renewal of both units is judged.
     fn close(&self, line: usize) -> Result<Pair, ReadRefusal>
         requires { Sound self.now × (complete self.now.stage ≡ true) }
         ensures { answered result ≡ judged (numbers_read self.now) line }
     {
-        Pair::new(self.numbers()).map_err(|_| ReadRefusal {
+        Pair::new(PairNumbers::from(self)).map_err(|_| ReadRefusal {
             rule: Rule::NoFullRenewal,
             line,
         })

@@ -68,10 +68,6 @@ impl Tariff for AirFirst {
 
     ghost fits = { Prim.search rules };
 
-    fn place_count(&self) -> usize {
-        Self::PLACES
-    }
-
     fn zero(&self) -> DarkThenCost {
         DarkThenCost { dark: 0, cost: 0 }
     }
@@ -91,8 +87,8 @@ impl Tariff for AirFirst {
     }
 
     // The interface has no body for these: an array's length cannot be a trait's constant, as a const parameter of the trait it
-    // would stand in every bound, and an associated type of arrays would ask every tariff for two conversions and the law that
-    // they keep its row. What they share is in places.
+    // would stand in every bound, and an associated type of arrays with two conversions and their law would be asked of every
+    // tariff, also of one whose amount has no array. What they share is in places.
     fn sum(&self, a: DarkThenCost, b: DarkThenCost) -> Option<DarkThenCost> {
         places::sum(a.into(), b.into()).map(DarkThenCost::from)
     }

@@ -89,10 +89,6 @@ impl Tariff for Priced {
 
     ghost fits = { first_of (Prim.search rules, Prim.grind (arith, Self.row.coded.inj)) };
 
-    fn place_count(&self) -> usize {
-        Self::PLACES
-    }
-
     fn zero(&self) -> Cost {
         Cost { thousandths: 0 }
     }
@@ -114,8 +110,8 @@ impl Tariff for Priced {
     }
 
     // The interface has no body for these: an array's length cannot be a trait's constant, as a const parameter of the trait it
-    // would stand in every bound, and an associated type of arrays would ask every tariff for two conversions and the law that
-    // they keep its row. What they share is in places.
+    // would stand in every bound, and an associated type of arrays with two conversions and their law would be asked of every
+    // tariff, also of one whose amount has no array. What they share is in places.
     fn sum(&self, a: Cost, b: Cost) -> Option<Cost> {
         places::sum(a.into(), b.into()).map(Cost::from)
     }

@@ -8,7 +8,8 @@ pub enum Unpriced {
     RateOutOfRange,
 }
 
-// Two numbers of one refusal: as two From they would be told apart only by the type that is wanted.
+// Two numbers of one refusal: as two From they would be told apart only by the type that is wanted. None has a place; a trait that
+// says so for all such refusals would be longer than the match.
 impl Unpriced {
     pub fn number(self) -> u32
         ensures { result ≡ number_of self }

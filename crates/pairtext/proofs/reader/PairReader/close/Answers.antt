@@ -23,4 +23,4 @@ pub returns : goal.returns
 returns c =
     let lawful = complete_lawful c.args.self.now c.requires.0 (complete_is _ c.requires.1) in
     let mapped = mapped_from (λ _. at_line c.args.line NoRenewal) _ c.new.result c.map_err.result c.map_err.ensures.cases (λ f z p. search (rules, p)) in
-    ap answered mapped ∙ closed c.numbers.result c.args.line (subst LawfulNumbers (sym c.numbers.ensures) lawful) c.new.result c.new.ensures.made ∙ ap (λ n. judged n c.args.line) c.numbers.ensures
+    ap answered mapped ∙ closed c.from.result c.args.line (subst LawfulNumbers (sym c.from.ensures) lawful) c.new.result c.new.ensures.made ∙ ap (λ n. judged n c.args.line) c.from.ensures
