@@ -1,5 +1,6 @@
 pub mod CutLaws
 pub mod FieldLaws
+pub mod FoldLaws
 pub mod LineLaws
 pub mod NumeralLaws
 pub mod PlaceLaws

@@ -1,7 +1,7 @@
 -- The laws of numbers in base ten.
 use Rattle.std.proofs.Common.{◌≡◌, ℕ, zero, suc, ◌+◌, ◌-◌, ◌*◌, ◌^◌, ◌<◌, ◌≤◌, Bool, true, false, cond, ◌&&◌, eqb, leb, List, [], ◌∷◌, length, get_or, take, drop, ℤ, pos, negsuc, Some, None, decimal, Option, sym, refl, ap, ◌∙◌, subst, ⊎_elim, arith, lit<, rules}
 use lib.Signed.{mag}
-use Rattle.std.specs.Option.{option_map}
+use Rattle.std.specs.Option.{option_map, option_and_then}
 use Rattle.std.specs.Fmt.{signed_decimal}
 use Rattle.std.specs.Str.{all_ascii_digits}
 use Rattle.std.specs.Char.{is_ascii_digit}
@@ -9,6 +9,7 @@ use Rattle.std.proofs.lemmas.Fmt.{decimal_digit, decimal_nonempty, first_decimal
 use Rattle.std.proofs.lemmas.List.{take_rest}
 use Rattle.std.proofs.lemmas.Str.Parse.{IsNumeralModel, numerals_by_fold, not_in_digits}
 use Rattle.std.proofs.lemmas.Bool.{leb-true, leb-false, le-leb, lt-leb, lt-ltb, ltb-true, eq-eqb, ne_eqb, eqb-true, and_from, and_parts, and_right, cond-true, cond-false, not-true, not_from_false, cases_lt}
+use Rattle.lines.proofs.FoldLaws.{tried}
 use Rattle.lines.specs.Numeral.{zero_digit, minus_sign, value_after, needless_zero, well_formed, numeral, pushed, negated, signed_numeral, ReadsNumber, ReadsSigned}
 
 pub own : IsNumeralModel (λ ds. all_ascii_digits ds ≡ true) (value_after 0)
@@ -91,10 +92,9 @@ numeral_signed (negsuc n) small =
 pub signed_law : (s : List ℕ) → ReadsSigned s (signed_numeral s)
 signed_law s z = (signed_to s z (eqb (get_or s 0 0) minus_sign) refl, λ h. ap signed_numeral h.0 ∙ numeral_signed z h.1)
 
--- what the loop over the digits reads, after those that wrote v
+-- what is read digit by digit, after those that wrote v
 abbrev pub read_on : ℕ → ℕ → List ℕ → Option ℕ
-read_on most v [] = Some v
-read_on most v (c ∷ cs) = cond (is_ascii_digit c && leb (10 * v + (c - zero_digit)) most) (read_on most (10 * v + (c - zero_digit)) cs) None
+read_on most = tried (λ v c. pushed v c most)
 
 value_ge : (n : ℕ) (cs : List ℕ) → n ≤ value_after n cs
 value_ge n [] = omega arith
@@ -104,7 +104,7 @@ read_on_here : (most v : ℕ) (cs : List ℕ) → v ≤ most → cond (all_ascii
 read_on_here most v [] low = cond-true _ _ _ (le-leb v most low)
 read_on_here most v (c ∷ cs) low = grows (is_ascii_digit c) (leb (10 * v + (c - zero_digit)) most) refl (read_on_here most (10 * v + (c - zero_digit)) cs)
   where
-    grows : {w : ℕ} (t u : Bool) → leb w most ≡ u → (w ≤ most → cond (all_ascii_digits cs && leb (value_after w cs) most) (Some (value_after w cs)) None ≡ read_on most w cs) → cond ((t && all_ascii_digits cs) && leb (value_after w cs) most) (Some (value_after w cs)) None ≡ cond (t && u) (read_on most w cs) None
+    grows : {w : ℕ} (t u : Bool) → leb w most ≡ u → (w ≤ most → cond (all_ascii_digits cs && leb (value_after w cs) most) (Some (value_after w cs)) None ≡ read_on most w cs) → cond ((t && all_ascii_digits cs) && leb (value_after w cs) most) (Some (value_after w cs)) None ≡ option_and_then (λ k. read_on most k cs) (cond (t && u) (Some w) None)
     grows false u q rest = refl
     grows {w} true true q rest = rest (leb-true w most q)
     grows {w} true false q rest =
@@ -118,14 +118,6 @@ numeral_read s most some zeros =
 
 pub number_at : (s : List ℕ) (most : ℕ) (r : Option ℕ) → most < 2 ^ 64 → r ≡ numeral s most → ReadsNumber s most r
 number_at s most r fits e = subst (ReadsNumber s most) (sym e) (numeral_law s most fits)
-
--- a digit that is refused ends the reading
-pub read_stop : (most v c : ℕ) (cs : List ℕ) → None ≡ pushed v c most → read_on most v (c ∷ cs) ≡ None
-read_stop most v c cs e = stop (is_ascii_digit c && leb (10 * v + (c - zero_digit)) most) e
-  where
-    stop : (t : Bool) → None ≡ cond t (Some (10 * v + (c - zero_digit))) None → cond t (read_on most (10 * v + (c - zero_digit)) cs) None ≡ None
-    stop true e = let q : ◌≡◌ {A = ℕ} 0 1 = cc in absurd (omega arith)
-    stop false e = refl
 
 pub signed_at : (s : List ℕ) (r : Option ℤ) → r ≡ signed_numeral s → ReadsSigned s r
 signed_at s r e = subst (ReadsSigned s) (sym e) (signed_law s)

@@ -41,13 +41,8 @@ pub fn number(text: &[u8], most: u64) -> Option<u64>
     if text.is_empty() || has_needless_zero(text) {
         return None;
     }
-    let mut value = 0;
-    // No plainer as try_fold: the one call would stand in a closure over `most`, and the loop's fact, which is of the digits that
-    // are left, would be owed of the fold's run, which tells of those that were read.
-    for digit in text {
-        value = push_digit(value, *digit, most)?;
-    }
-    Some(value)
+    text.iter()
+        .try_fold(0, |value, digit| push_digit(value, *digit, most))
 }
 
 // `magnitude` behind a minus: none at 0. No conversion of types but arithmetic: with TryFrom a number would become its negative.
