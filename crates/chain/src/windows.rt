@@ -34,17 +34,15 @@ impl Chain {
         let mut total = 0;
         let mut hazards = 0;
         let mut asked_hazard = 0;
-        // By enumerate: the number from 1 is i + 1. As `(1..).zip(..)` each turn would also test for the end of `1..`, three
-        // instructions more in a loop of this shape, where the benchmarks spend their time.
-        for (i, part) in self.numbers.parts().iter().enumerate() {
-            let renewed = holds(portfolio, i + 1);
+        for (number, part) in (1..).zip(self.numbers.parts()) {
+            let renewed = holds(portfolio, number);
             let start = part.start_age(rest % part.life + 1, renewed)?;
             let hazard = part.hazards[start];
             hazards += hazard;
             total += start * width;
             rest /= part.life;
             width *= part.life;
-            if i + 1 == asked {
+            if number == asked {
                 asked_hazard = hazard;
             }
         }

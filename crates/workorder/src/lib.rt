@@ -36,10 +36,7 @@ impl Arc {
 pub fn holds(portfolio: usize, part: usize) -> bool
     ensures { Decides result (Holds portfolio part) }
 {
-    if part == 0 || part > usize::BITS as usize {
-        return false;
-    }
-    (portfolio >> (part - 1)) % 2 == 1
+    (1..=usize::BITS as usize).contains(&part) && (portfolio >> (part - 1)) % 2 == 1
 }
 
 // The arc's cents, where it leads to the part from the door or from a part of the portfolio done.

@@ -1,11 +1,10 @@
 use Rattle.std.proofs.Common.{◌^◌, ◌<◌, ◌≤◌, arith}
-use Rattle.std.proofs.lemmas.Bool.{false≢true}
 use Rattle.workorder.proofs.Portfolios.{part_within}
 use Rattle.workorder.proofs.holds.Goals as goal
 
 -- past the last digit of a number there is no part
-pub returns-then-part-eq0 : goal.returns-then-part-eq0
-returns-then-part-eq0 c = (
-  λ e. absurd (false≢true e),
-  λ h. absurd (let f : c.args.portfolio < 2 ^ 64 = omega arith in let p : c.args.part ≤ 64 = part_within 64 c.args.portfolio c.args.part f h in let q = h.0 in omega arith),
+pub returns-else-contains : goal.returns-else-contains
+returns-else-contains c = (
+  λ e. absurd (grind arith),
+  λ h. absurd (let f : c.args.portfolio < 2 ^ 64 = omega arith in let p : c.args.part ≤ 64 = part_within 64 c.args.portfolio c.args.part f h in let q = h.0 in grind arith),
 )
