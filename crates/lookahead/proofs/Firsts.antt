@@ -2,7 +2,11 @@
 use Rattle.std.proofs.Common.{◌≡◌, ℕ, zero, suc, ◌<◌, Bool, true, false, cond, ◌⊎◌, Some, None, Option, sym, refl, subst, ⊎_elim, arith}
 use Rattle.std.proofs.lemmas.Bool.{cases_eq, cases_Bool, both_ways}
 use Rattle.interface.specs.Rows.{Row}
-use Rattle.lookahead.specs.Best.{Pick, better, first_best, FirstBest}
+use Rattle.interface.specs.Tariffs.{Scale, LawfulScale, Fit}
+use Rattle.lookahead.specs.Best.{Pick, better, first_best, FirstBest, cheaper, dearer}
+use Rattle.lookahead.specs.Choices.{EachFits, good}
+use Rattle.lookahead.specs.declared.best.Aim.{Aim}
+use Rattle.lookahead.specs.declared.best.Aim.TheVariants.{Least, Greatest}
 
 -- no row is there and absent
 clash : {A : Type 0} {X : Type 0} (o : Option A) (a : A) → o ≡ Some a → o ≡ None → X
@@ -66,3 +70,8 @@ module _ (good : Row → Row → Bool) (Ok : Row → Type 0)
   pub first_best_law : (n : ℕ) → FirstBest good f n (first_best good f n)
   first_best_law zero = λ k l. absurd (omega arith)
   first_best_law (suc n) = step n (first_best good f n) (f n) refl (first_best_law n)
+
+-- the least or the greatest by the order of a lawful scale
+pub aim_law : (aim : Aim) (t : Scale) → LawfulScale t → (rows : ℕ → Option Row) → EachFits t rows → (n : ℕ) → FirstBest (good aim t) rows n (first_best (good aim t) rows n)
+aim_law Least t scaled rows fits = first_best_law (cheaper t) (Fit t) scaled.total scaled.transitive rows fits
+aim_law Greatest t scaled rows fits = first_best_law (dearer t) (Fit t) (λ u v p q. scaled.total v u q p) (λ u v w p q r a b. scaled.transitive w v u r q p b a) rows fits

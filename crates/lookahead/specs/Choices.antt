@@ -1,12 +1,12 @@
 -- What a choice means: its number, and its amount's row; and what makes one row as good as another.
-use Rattle.std.specs.Prelude.{◌≡◌, ℕ, ◌<◌, Bool, Option}
+use Rattle.std.specs.Prelude.{◌≡◌, ℕ, ◌<◌, Bool, Some, Option}
 use Rattle.std.specs.Option.{option_map}
 use Rattle.lookahead.specs.declared.best.Aim.{Aim}
 use Rattle.lookahead.specs.declared.best.Aim.TheVariants.{Least, Greatest}
 use Rattle.lookahead.specs.declared.best.Choice.{Choice}
 use Rattle.lookahead.specs.Best.{Pick, cheaper, dearer}
 use Rattle.interface.specs.Rows.{Row}
-use Rattle.interface.specs.Tariffs.{Scale}
+use Rattle.interface.specs.Tariffs.{Scale, Fit}
 
 abbrev pub pick : {A : Type 0} → (A → Row) → Choice A → Pick
 pick row c = record { at = c.at; row = row c.amount }
@@ -18,3 +18,7 @@ good Greatest t = dearer t
 -- What may be answered at each number below a count stands for the row of that number.
 abbrev pub Asked : {A : Type 0} → (ℕ → Option A → Type 0) → (A → Row) → ℕ → (ℕ → Option Row) → Type 0
 Asked {A} post row count rows = (x : ℕ) (r : Option A) → x < count → post x r → option_map row r ≡ rows x
+
+-- Each row that is there has the places of the scale, as its order asks.
+abbrev pub EachFits : Scale → (ℕ → Option Row) → Type 0
+EachFits t rows = (k : ℕ) (u : Row) → rows k ≡ Some u → Fit t u

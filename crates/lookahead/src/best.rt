@@ -2,8 +2,8 @@
 ghost use Rattle.std.specs.Prelude.{◌≡◌, ℕ, Option};
 ghost use Rattle.std.specs.Option.{option_map};
 ghost use Rattle.interface.specs.Rows.{Row};
-ghost use Rattle.lookahead.specs.Best.{better, first_best};
-ghost use Rattle.lookahead.specs.Choices.{Asked, pick, good};
+ghost use Rattle.lookahead.specs.Best.{FirstBest, better, first_best};
+ghost use Rattle.lookahead.specs.Choices.{Asked, EachFits, pick, good};
 
 use interface::tariff::Tariff;
 
@@ -64,7 +64,8 @@ impl Aim {
         ask: F,
     ) -> Option<Choice<T::Amount>>
         requires { F.IsAlwaysCallable ask }
-        ensures { (rows : ℕ → Option Row) → Asked (F.post ask) T.Tariff.row count rows → option_map (pick T.Tariff.row) result ≡ first_best (good self (T.scale tariff.now)) rows count }
+        ensures is { (rows : ℕ → Option Row) → Asked (F.post ask) T.Tariff.row count rows → option_map (pick T.Tariff.row) result ≡ first_best (good self (T.scale tariff.now)) rows count }
+        ensures law { (rows : ℕ → Option Row) → Asked (F.post ask) T.Tariff.row count rows → EachFits (T.scale tariff.now) rows → FirstBest (good self (T.scale tariff.now)) rows count (option_map (pick T.Tariff.row) result) }
     {
         let mut best = None;
         // By number: there is no slice to go over. No plainer as filter_map and min_by: the tariff's question is no Ord, so an

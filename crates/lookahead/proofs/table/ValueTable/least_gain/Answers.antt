@@ -1,10 +1,10 @@
-use Rattle.std.proofs.Common.{◌≡◌, map, sym, ap, ◌∙◌, subst, rules}
+use Rattle.std.proofs.Common.{map, subst, rules}
 use Rattle.std.specs.Option.{option_map}
-use Rattle.lookahead.specs.Best.{first_best, FirstBest, cheaper, where_feasible}
+use Rattle.lookahead.specs.Best.{FirstBest, cheaper, where_feasible}
 use Rattle.lookahead.specs.Choices.{pick}
 use Rattle.lookahead.specs.Gains.{gain}
 use Rattle.lookahead.proofs.Bounds.{fits_map}
-use Rattle.lookahead.proofs.Leasts.{gain_fits, least_law}
+use Rattle.lookahead.proofs.Leasts.{gain_fits, rows_fit}
 use Rattle.lookahead.proofs.Optional.{answered}
 use Rattle.lookahead.proofs.table.ValueTable.least_gain.Goals as goal
 
@@ -13,11 +13,11 @@ returns-clause-least g c = λ w.
     let m = g.P.Plant.model c.args.plant.now in
     let t = g.T.Tariff.scale c.args.tariff.now in
     let row = g.T.Tariff.row in
-    let xs = c.args.self.now.amounts.now in
-    let fit = fits_map row t.places (g.met.T.Tariff.fits c.args.tariff.now) xs in
-    let F = gain m t (map row xs) in
+    let vs = map row c.args.self.now.amounts.now in
+    let fit = fits_map row t.places (g.met.T.Tariff.fits c.args.tariff.now) c.args.self.now.amounts.now in
+    let F = gain m t vs in
     let s = c.args.state in
-    let asked = c.first_best.ensures (where_feasible m F s) (λ x r l p. answered row r (m.feasible s x) (F s x) (search rules)) in
-    let is : option_map (pick row) c.first_best.result ≡ first_best (cheaper t) (where_feasible m F s) m.portfolios = asked ∙ ap (first_best (cheaper t) (where_feasible m F s)) c.portfolios.ensures in
-    subst (FirstBest (cheaper t) (where_feasible m F s) m.portfolios) (sym is)
-    (least_law m t (g.met.T.Tariff.lawful c.args.tariff.now) F (gain_fits m (g.met.P.Plant.lawful c.args.plant.now) t (g.met.T.Tariff.lawful c.args.tariff.now) (map row xs) w.long fit) s m.portfolios)
+    let scaled = g.met.T.Tariff.lawful c.args.tariff.now in
+    let fits = rows_fit m t scaled F (gain_fits m (g.met.P.Plant.lawful c.args.plant.now) t scaled vs w.long fit) s in
+    let law = c.first_best.ensures.law (where_feasible m F s) (λ x r l p. answered row r (m.feasible s x) (F s x) (search rules)) fits in
+    subst (λ n. FirstBest (cheaper t) (where_feasible m F s) n (option_map (pick row) c.first_best.result)) c.portfolios.ensures law
