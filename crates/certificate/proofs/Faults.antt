@@ -1,8 +1,8 @@
 -- The first fault, and tests of every number below a bound.
-use Rattle.std.proofs.Common.{◌≡◌, ℕ, zero, suc, ◌+◌, ◌<◌, Bool, true, false, ◌&&◌, eqb, List, map, length, get_or, Some, None, Option, sym, refl, ap, ◌∙◌, subst, ⊎_elim, add-one, arith}
+use Rattle.std.proofs.Common.{◌≡◌, ℕ, zero, suc, ◌+◌, ◌<◌, Bool, true, false, ◌&&◌, eqb, List, map, length, get_or, Some, None, Option, ◌⊎◌, inl, inr, sym, refl, ap, ◌∙◌, subst, ⊎_elim, add-one, arith}
 use Rattle.std.specs.List.{list_all, range_with_len}
 use Rattle.std.proofs.lemmas.List.{get_or-map, length-map}
-use Rattle.std.proofs.lemmas.Bool.{cases_eq, and_parts, and_from, and_right}
+use Rattle.std.proofs.lemmas.Bool.{cases_Bool, cases_eq, and_parts, and_from, and_right}
 use Rattle.interface.specs.Rows.{Row, zeros}
 use Rattle.interface.specs.Tariffs.{Scale}
 use Rattle.lookahead.specs.Gains.{value_of}
@@ -12,6 +12,10 @@ use Rattle.certificate.specs.Refusals.{or_else, first_fault, each, level}
 pub or_none : {A : Type 0} (x y : Option A) → or_else x y ≡ None → (x ≡ None) × (y ≡ None)
 or_none None y h = (refl, h)
 or_none (Some a) y h = let z : ◌≡◌ {A = ℕ} 0 1 = cc in absurd (omega arith)
+
+pub or_some : {A : Type 0} (x y : Option A) (a : A) → or_else x y ≡ Some a → (x ≡ Some a) ⊎ ((x ≡ None) × (y ≡ Some a))
+or_some None y a h = inr (refl, h)
+or_some (Some b) y a h = inl h
 
 module _ {A : Type 0} (f : ℕ → Option A) where
   pub fault_more : (n : ℕ) → first_fault f n ≡ None → f n ≡ None → first_fault f (n + 1) ≡ None
@@ -32,6 +36,19 @@ module _ {A : Type 0} (f : ℕ → Option A) where
   pub none_from : (n : ℕ) → ((k : ℕ) → k < n → f k ≡ None) → first_fault f n ≡ None
   none_from zero h = refl
   none_from (suc n) h = ap (λ z. or_else z (f n)) (none_from n (λ k l. h k (omega arith))) ∙ h n (omega arith)
+
+  -- the first below n that has a fault, and which
+  pub record FirstAt (n : ℕ) (a : A) : Type 0 where
+    pub at : ℕ
+    pub below : at < n
+    pub there : f at ≡ Some a
+    pub before : (j : ℕ) → j < at → f j ≡ None
+
+  pub first_at : (n : ℕ) (a : A) → first_fault f n ≡ Some a → FirstAt n a
+  first_at zero a h = let z : ◌≡◌ {A = ℕ} 0 1 = cc in absurd (omega arith)
+  first_at (suc n) a h = ⊎_elim
+      (λ earlier. let found = first_at n a earlier in record { at = found.at; below = omega (arith, found.below); there = found.there; before = found.before })
+      (λ last. record { at = n; below = omega arith; there = last.1; before = λ j l. none_below n j last.0 l }) (or_some (first_fault f n) (f n) a h)
 
 and_true : (a : Bool) → (a && true) ≡ a
 and_true true = refl
@@ -62,6 +79,11 @@ module _ (p : ℕ → Bool) where
   each_not (suc n) k l h = ⊎_elim
       (λ same. and_right (each p n) (p n) (subst (λ j. p j ≡ false) same h))
       (λ other. ap (λ z. z && p n) (each_not n k (omega arith) h)) (cases_eq k n)
+
+  -- where not all hold, one fails
+  pub each_failed : (n : ℕ) → each p n ≡ false → (k : ℕ) × (p k ≡ false)
+  each_failed zero h = let z : ◌≡◌ {A = ℕ} 0 1 = cc in absurd (omega arith)
+  each_failed (suc n) h = ⊎_elim (λ before. (n, ap (λ z. z && p n) (sym before) ∙ h)) (λ before. each_failed n before) (cases_Bool (each p n))
 
 -- the numbers below n, asked one after the other
 each_front : (p : ℕ → Bool) (n : ℕ) → each p (suc n) ≡ (p 0 && each (λ k. p (suc k)) n)

@@ -1,5 +1,6 @@
 pub mod Claiming
 pub mod Extremes
 pub mod Faults
+pub mod Reasons
 pub mod Refused
 pub mod Soundness

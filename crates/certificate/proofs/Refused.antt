@@ -1,5 +1,5 @@
 -- The refusal, test by test.
-use Rattle.std.proofs.Common.{◌≡◌, ℕ, ◌<◌, Bool, true, false, cond, ◌&&◌, eqb, List, map, length, Some, None, sym, refl, ap, ◌∙◌, subst, arith}
+use Rattle.std.proofs.Common.{◌≡◌, ℕ, Bool, true, false, cond, ◌&&◌, eqb, List, map, length, Some, None, sym, refl, ap, ◌∙◌, subst, arith}
 use Rattle.std.proofs.lemmas.List.{length-map}
 use Rattle.std.proofs.lemmas.Bool.{and_parts, and_from, eqb-true, eq-eqb, cond-true}
 use Rattle.interface.specs.Plants.{Model}
@@ -8,7 +8,7 @@ use Rattle.interface.specs.Tariffs.{Scale}
 use Rattle.lookahead.specs.Gains.{Within}
 use Rattle.certificate.specs.declared.refusal.Refusal.TheVariants.{WrongLength, Infeasible}
 use Rattle.certificate.specs.Certificates.{named}
-use Rattle.certificate.specs.Recipes.{policy_fault, recipe_refusal}
+use Rattle.certificate.specs.Recipes.{Fitting, policy_fault, recipe_refusal}
 use Rattle.certificate.specs.Refusals.{or_else, first_fault, value_fault, level}
 use Rattle.certificate.proofs.Faults.{level_map, or_none, none_below, none_from}
 use Rattle.certificate.proofs.Soundness.{near_from, near_to, passed}
@@ -26,12 +26,6 @@ module _ {A : Type 0} (row : A → Row) (m : Model) (xs : List A) (ps : List ℕ
     long = length-map xs row ∙ values_long;
     near = near_from t (map row xs) (subst (λ n. first_fault (value_fault t (map row xs)) n ≡ None) (sym (length-map xs row)) h);
   }
-
--- what the recipe's tests have shown when none fails
-pub record Fitting (m : Model) (vs : List Row) (ps : List ℕ) : Type 0 where
-  pub within : Within m vs
-  pub policy : length ps ≡ m.states
-  pub feasible : (s : ℕ) → s < m.states → m.feasible s (named ps s) ≡ true
 
 pub fitting_from : {A : Type 0} (row : A → Row) (m : Model) (t : Scale) (xs : List A) (ps : List ℕ) → recipe_refusal m t (map row xs) ps ≡ None → Fitting m (map row xs) ps
 fitting_from row m t xs ps none =

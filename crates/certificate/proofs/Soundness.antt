@@ -1,12 +1,13 @@
 -- No test fails exactly when the certificate is sound.
-use Rattle.std.proofs.Common.{◌≡◌, ℕ, zero, suc, ◌<◌, ◌≤◌, Bool, true, false, cond, ◌&&◌, eqb, leb, List, [], ◌∷◌, length, get_or, Some, None, Option, sym, refl, ap, ◌∙◌, subst, arith}
+use Rattle.std.proofs.Common.{◌≡◌, ℕ, zero, suc, ◌<◌, ◌≤◌, Bool, true, false, cond, ◌&&◌, eqb, leb, List, [], ◌∷◌, length, get_or, Some, None, Option, ◌⊎◌, inl, inr, sym, refl, ap, ◌∙◌, subst, arith}
 use Rattle.std.proofs.lemmas.Bool.{and_parts, and_from, leb-true, le-leb, eqb-true, eq-eqb, cond-true}
 use Rattle.interface.specs.Plants.{Model, Lawful}
 use Rattle.interface.specs.Rows.{Row, zeros, reach}
-use Rattle.interface.specs.Tariffs.{Scale}
+use Rattle.interface.specs.Tariffs.{Scale, AtMost}
 use Rattle.lookahead.specs.Gains.{most_value, value_of, gain, Near}
 use Rattle.certificate.specs.declared.refusal.Refusal.TheVariants.{WrongLength, BeyondReach, Infeasible, LowBroken, HighBroken}
 use Rattle.certificate.specs.Certificates.{most_claim, named, Sound}
+use Rattle.certificate.specs.Reasons.{Holds}
 use Rattle.certificate.specs.Refusals.{or_else, first_fault, each, value_fault, low_test, state_fault, level, refusal}
 use Rattle.certificate.proofs.Faults.{none_below, none_from, each_at, each_from, or_none}
 
@@ -14,6 +15,15 @@ use Rattle.certificate.proofs.Faults.{none_below, none_from, each_at, each_from,
 pub passed : {A : Type 0} (b : Bool) (x : Option A) (a : A) → cond b x (Some a) ≡ None → (b ≡ true) × (x ≡ None)
 passed true x a h = (refl, h)
 passed false x a h = let z : ◌≡◌ {A = ℕ} 0 1 = cc in absurd (omega arith)
+
+-- what a test with a fault answers is its own fault, or that of the tests behind it
+pub failed : {A : Type 0} (b : Bool) (x : Option A) (a e : A) → cond b x (Some a) ≡ Some e → ((b ≡ false) × (a ≡ e)) ⊎ ((b ≡ true) × (x ≡ Some e))
+failed true x a e h = inr (refl, h)
+failed false x a e h = inl (refl, cc)
+
+pub failed_last : {A : Type 0} (b : Bool) (a e : A) → cond b None (Some a) ≡ Some e → (b ≡ false) × (a ≡ e)
+failed_last true a e h = let z : ◌≡◌ {A = ℕ} 0 1 = cc in absurd (omega arith)
+failed_last false a e h = (refl, cc)
 
 pub near_from_each : (n : ℕ) (vs : List Row) → ((s : ℕ) → s < length vs → reach (get_or vs s (zeros n)) ≤ most_value) → Near vs
 near_from_each n [] h = tt
@@ -44,6 +54,20 @@ low_to true a h = h refl
 low_to false a h = refl
 
 module _ (m : Model) (lawful : Lawful m) (t : Scale) (vs : List Row) (ps : List ℕ) (low high : Row) where
+  pub low_held : (s : ℕ) → each (low_test m t vs low s) m.portfolios ≡ true → (x : ℕ) → m.feasible s x ≡ true → AtMost t low (gain m t vs s x)
+  low_held s h x f = low_from (m.feasible s x) (t.at_most low (gain m t vs s x)) (each_at (low_test m t vs low s) m.portfolios x h (lawful.in_range s x f).1) f
+
+  -- no test of the state fails
+  pub state_held : (s : ℕ) → state_fault m t vs ps low high s ≡ None → Holds m t vs ps low high s
+  state_held s h =
+      let first = passed (m.feasible s (named ps s)) _ (Infeasible s) h in
+      let second = passed (each (low_test m t vs low s) m.portfolios) _ (LowBroken s) first.1 in
+      record {
+        feasible = first.0;
+        low_holds = low_held s second.0;
+        high_holds = (passed (t.at_most (gain m t vs s (named ps s)) high) None (HighBroken s) second.1).0;
+      }
+
   pub sound_from : refusal m t vs ps low high ≡ None → Sound m t vs ps low high
   sound_from none =
       let one = passed (level m vs ps) _ WrongLength none in
@@ -58,24 +82,13 @@ module _ (m : Model) (lawful : Lawful m) (t : Scale) (vs : List Row) (ps : List 
         policy = eqb-true (length ps) m.states lengths.1;
         low_near = leb-true (reach low) most_claim claims.0;
         high_near = leb-true (reach high) most_claim claims.1;
-        feasible = λ s l. (parts three.1 s l).0;
-        low_holds = λ s x f.
-            let inside = lawful.in_range s x f in
-            low_from (m.feasible s x) (t.at_most low (gain m t vs s x)) (each_at (low_test m t vs low s) m.portfolios x (parts three.1 s inside.0).1 inside.1) f;
-        high_holds = λ s l. (parts three.1 s l).2;
+        feasible = λ s l. (held three.1 s l).feasible;
+        low_holds = λ s x f. (held three.1 s (lawful.in_range s x f).0).low_holds x f;
+        high_holds = λ s l. (held three.1 s l).high_holds;
       }
     where
-      parts : first_fault (state_fault m t vs ps low high) m.states ≡ None → (s : ℕ) → s < m.states
-          → (m.feasible s (named ps s) ≡ true) × (each (low_test m t vs low s) m.portfolios ≡ true) × (t.at_most (gain m t vs s (named ps s)) high ≡ true)
-      parts h s l =
-          let first = passed (m.feasible s (named ps s)) _ (Infeasible s) (none_below (state_fault m t vs ps low high) m.states s h l) in
-          let second = passed (each (low_test m t vs low s) m.portfolios) _ (LowBroken s) first.1 in
-          let third = last_test (t.at_most (gain m t vs s (named ps s)) high) s second.1 in
-          (first.0, second.0, third)
-        where
-          last_test : (b : Bool) (s : ℕ) → cond b None (Some (HighBroken s)) ≡ None → b ≡ true
-          last_test true s e = refl
-          last_test false s e = let z : ◌≡◌ {A = ℕ} 0 1 = cc in absurd (omega arith)
+      held : first_fault (state_fault m t vs ps low high) m.states ≡ None → (s : ℕ) → s < m.states → Holds m t vs ps low high s
+      held h s l = state_held s (none_below (state_fault m t vs ps low high) m.states s h l)
 
   pub sound_to : Sound m t vs ps low high → refusal m t vs ps low high ≡ None
   sound_to sound =

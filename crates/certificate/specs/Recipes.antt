@@ -1,10 +1,10 @@
 -- The recipe: of a value table and a policy, the least gain of all feasible portfolios and the greatest of the policy's.
-use Rattle.std.specs.Prelude.{◌≡◌, ℕ, ◌<◌, true, false, cond, ◌⊎◌, List, Some, None, Option}
+use Rattle.std.specs.Prelude.{◌≡◌, ℕ, ◌<◌, true, false, cond, ◌⊎◌, List, length, Some, None, Option}
 use Rattle.interface.specs.Plants.{Model}
 use Rattle.interface.specs.Rows.{Row}
 use Rattle.interface.specs.Tariffs.{Scale, AtMost}
 use Rattle.lookahead.specs.Best.{Pick, first_best, cheaper, where_feasible}
-use Rattle.lookahead.specs.Gains.{gain}
+use Rattle.lookahead.specs.Gains.{gain, Within}
 use Rattle.certificate.specs.declared.refusal.Refusal.{Refusal}
 use Rattle.certificate.specs.declared.refusal.Refusal.TheVariants.{WrongLength, Infeasible}
 use Rattle.certificate.specs.Certificates.{named}
@@ -26,6 +26,13 @@ pub record Highest (m : Model) (t : Scale) (vs : List Row) (ps : List ℕ) (u : 
   pub there : u ≡ gain m t vs state (named ps state)
   pub greatest : (s : ℕ) → s < m.states → AtMost t (gain m t vs s (named ps s)) u
   pub first : (s : ℕ) → s < state → t.at_most u (gain m t vs s (named ps s)) ≡ false
+
+-- What a recipe can be made of: both tables have an entry for each state, the values are within reach, and whatever the
+-- policy names may be done.
+pub record Fitting (m : Model) (vs : List Row) (ps : List ℕ) : Type 0 where
+  pub within : Within m vs
+  pub policy : length ps ≡ m.states
+  pub feasible : (s : ℕ) → s < m.states → m.feasible s (named ps s) ≡ true
 
 -- The first least gain of a state's feasible portfolios.
 abbrev pub row_of : Option Pick → Option Row

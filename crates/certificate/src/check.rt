@@ -1,9 +1,10 @@
 // The check of a certificate.
-ghost use Rattle.std.specs.Prelude.{◌≡◌, ℕ, List, ◌&&◌, map, length, ◌==◌, nat_le};
+ghost use Rattle.std.specs.Prelude.{◌≡◌, ℕ, List, ◌&&◌, map, length, ◌==◌, nat_le, IfErr};
 ghost use Rattle.std.specs.Result.{result_err};
 ghost use Rattle.interface.specs.Rows.{reach};
 ghost use Rattle.certificate.specs.Certificates.{most_claim, named};
 ghost use Rattle.certificate.specs.Findings.{Verdict, ExactlySound};
+ghost use Rattle.certificate.specs.Reasons.{Reason};
 ghost use Rattle.certificate.specs.Refusals.{refusal, first_fault, value_fault, each, low_test, state_fault};
 
 use crate::finding;
@@ -147,6 +148,7 @@ pub fn check<P: Plant, T: Tariff>(
 ) -> Result<Finding<T::Amount>, Refusal>
     ensures verdict { Verdict T.Tariff.row (P.model plant.now) (T.scale tariff.now) (map T.Tariff.row values.now) policy.now claims.low claims.high result }
     ensures exact { ExactlySound T.Tariff.row (P.model plant.now) (T.scale tariff.now) (map T.Tariff.row values.now) policy.now claims.low claims.high result }
+    ensures reason { IfErr result (Reason (P.model plant.now) (T.scale tariff.now) (map T.Tariff.row values.now) policy.now (T.Tariff.row claims.low) (T.Tariff.row claims.high)) }
 {
     certificate_holds(plant, tariff, values, policy, claims)?;
     // A plant has a state, so a table that holds has a value: no absence is refused here.

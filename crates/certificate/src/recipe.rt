@@ -1,10 +1,11 @@
 // The recipe: the claims that are made of a value table and a policy.
-ghost use Rattle.std.specs.Prelude.{◌≡◌, ◌<◌, map, length};
+ghost use Rattle.std.specs.Prelude.{◌≡◌, ◌<◌, map, length, IfErr};
 ghost use Rattle.std.specs.Option.{option_map};
 ghost use Rattle.std.specs.Result.{result_err};
 ghost use Rattle.lookahead.specs.Best.{first_best, cheaper, dearer};
 ghost use Rattle.lookahead.specs.Choices.{pick};
-ghost use Rattle.certificate.specs.Claims.{Recipe};
+ghost use Rattle.certificate.specs.Claims.{Recipe, ExactlyFitting};
+ghost use Rattle.certificate.specs.Reasons.{RecipeReason};
 ghost use Rattle.certificate.specs.Recipes.{state_low, policy_gain, policy_fault, recipe_refusal};
 ghost use Rattle.certificate.specs.Refusals.{first_fault};
 
@@ -93,7 +94,9 @@ pub fn recipe<P: Plant, T: Tariff>(
     values: &[T::Amount],
     policy: &[u16],
 ) -> Result<Claims<T::Amount>, Refusal>
-    ensures { Recipe T.Tariff.row (P.model plant.now) (T.scale tariff.now) (map T.Tariff.row values.now) policy.now result }
+    ensures answer { Recipe T.Tariff.row (P.model plant.now) (T.scale tariff.now) (map T.Tariff.row values.now) policy.now result }
+    ensures exact { ExactlyFitting (P.model plant.now) (map T.Tariff.row values.now) policy.now result }
+    ensures reason { IfErr result (RecipeReason (P.model plant.now) (T.scale tariff.now) (map T.Tariff.row values.now) policy.now) }
 {
     inputs_hold(plant, tariff, values, policy)?;
     // As a literal, as in the check: the reach is known here.

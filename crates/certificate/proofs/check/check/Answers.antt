@@ -1,9 +1,11 @@
 use Rattle.std.proofs.Common.{◌≡◌, ℕ, ◌≤◌, Err, map, length, sym, refl, ap, ◌∙◌, subst, arith, rules}
-use Rattle.std.specs.Result.{result_ok, result_err}
+use Rattle.std.specs.Result.{result_ok, result_err, IfErr}
 use Rattle.std.proofs.lemmas.List.{length-map}
 use Rattle.lookahead.specs.declared.best.Aim.TheVariants.{Least, Greatest}
 use Rattle.certificate.specs.Findings.{ExactlySound}
+use Rattle.certificate.specs.Reasons.{Reason}
 use Rattle.certificate.proofs.Extremes.{extreme_absent, extreme_there}
+use Rattle.certificate.proofs.Reasons.{reason_from}
 use Rattle.certificate.proofs.Soundness.{sound_from, sound_to}
 use Rattle.certificate.proofs.check.check.Goals as goal
 
@@ -19,6 +21,19 @@ returns-in_err-certificate_holds-clause-exact g c =
     let none = sound_to m (g.met.P.Plant.lawful c.args.plant.now) t vs c.args.policy.now (row c.args.claims.low) (row c.args.claims.high) sound in
     let some = sym c.certificate_holds.ensures ∙ ap result_err c.in_err-certificate_holds.was in
     let z : ◌≡◌ {A = ℕ} 0 1 = cc in omega arith)
+
+pub returns-in_err-certificate_holds-clause-reason : goal.returns-in_err-certificate_holds-clause-reason
+returns-in_err-certificate_holds-clause-reason g c =
+    let row = g.T.Tariff.row in
+    let m = g.P.Plant.model c.args.plant.now in
+    let t = g.T.Tariff.scale c.args.tariff.now in
+    let vs = map row c.args.values.now in
+    let low = row c.args.claims.low in
+    let high = row c.args.claims.high in
+    let e = c.in_err-certificate_holds.field-0.0 in
+    let out : c.from_residual.result ≡ Err e = search rules in
+    subst (λ r. IfErr r (Reason m t vs c.args.policy.now low high)) (sym out)
+    (reason_from m (g.met.P.Plant.lawful c.args.plant.now) t vs c.args.policy.now low high e (sym c.certificate_holds.ensures ∙ ap result_err c.in_err-certificate_holds.was))
 
 pub returns-in_err-top : goal.returns-in_err-top
 returns-in_err-top g c =
@@ -64,4 +79,5 @@ returns g c =
         },
       );
       exact = sound;
+      reason = tt;
     }

@@ -24,7 +24,7 @@ unwrap-requires g c =
       policy = chosen.long;
       feasible = λ s l. let least = chosen.each s l in (feasible_of m (look_ahead m t (map row xs)) s (named ps s) least.0 least.1.there).0;
     }) in
-    recipe_there row m t (map row xs) ps c.recipe.result c.recipe.ensures none
+    recipe_there row m t (map row xs) ps c.recipe.result c.recipe.ensures.answer none
 
 pub returns-clause-only : goal.returns-clause-only
 returns-clause-only g c = λ vs swept. swept_one (g.P.Plant.model c.args.plant.now) (g.T.Tariff.scale c.args.tariff.now) c.in_ok-swept.ensures swept
