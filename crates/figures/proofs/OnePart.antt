@@ -1,6 +1,6 @@
 -- The plans of the one-part chain. Its two least work orders are known, and all else computes.
 use Rattle.std.proofs.Common.{◌≡◌, ℕ, zero, suc, ◌<◌, ◌≤◌, true, false, ◌&&◌, ltb, ◌⊎◌, List, [], ◌∷◌, length, Some, Option, refl, subst, inl, inr, arith, lit≤}
-use Rattle.certificate.specs.Certificates.{named}
+use Rattle.certificate.specs.Certificates.{Sound, named}
 use Rattle.certificate.specs.Recipes.{Lowest, Highest}
 use Rattle.chain.specs.Parts.{arcs_of}
 use Rattle.figures.proofs.LoneChain.{made, table_shape}
@@ -12,6 +12,7 @@ use Rattle.interface.specs.Tariffs.{Scale, AtMost}
 use Rattle.lookahead.proofs.Firsts.{first_best_law}
 use Rattle.lookahead.specs.Best.{FirstBest, Pick, cheaper, first_best, where_feasible}
 use Rattle.lookahead.specs.Gains.{gain, look_ahead, value_of}
+use Rattle.planner.proofs.Sweeping.{swept_within}
 use Rattle.planner.specs.Sweeps.{Chooses, LeastAhead, Shared, Sweep, Swept, blank, start, more}
 use Rattle.std.proofs.lemmas.Bool.{and_parts, ltb-true, both_ways}
 use Rattle.tariffs.specs.OrdersLemmas.{first_total, first_trans}
@@ -161,6 +162,18 @@ module _ (rest : List (Option ℕ)) where
         (each_state (λ s. AtMost scale (gain plant scale after_two.values s (named after_two.policy s)) after_two.high) refl refl refl refl);
   }
 
+  -- low is the least gain of all and high the greatest of the policy's, so both claims hold
+  sound_twice : Sound plant scale after_two.values after_two.policy after_two.low after_two.high
+  sound_twice = record {
+    values = swept_within plant scale swept_twice;
+    policy = refl;
+    low_near = lit≤ tt;
+    high_near = lit≤ tt;
+    feasible = each_state (λ s. plant.feasible s (named after_two.policy s) ≡ true) refl refl refl refl;
+    low_holds = plan_twice.lowest.least;
+    high_holds = plan_twice.highest.greatest;
+  }
+
 only : (k : ℕ) (p : Plan) (table : List (Option ℕ)) → LeastTable (arcs_of lone_chain) table → ((rest : List (Option ℕ)) → PlanAfter (plant rest) scale k p) → TheOnly (lone_plant table) scale k p
 only k p table right plan =
     let begins = table_shape table right in
@@ -172,4 +185,7 @@ figures = record {
   made = (_, made);
   one_sweep = λ table right. only 1 after_one table right plan_once;
   two_sweeps = λ table right. only 2 after_two table right plan_twice;
+  sound = λ table right.
+      let begins = table_shape table right in
+      subst (λ w. Sound (lone_plant w) scale after_two.values after_two.policy after_two.low after_two.high) begins.1 (sound_twice begins.0);
 }

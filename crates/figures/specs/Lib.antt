@@ -1,2 +1,2 @@
 pub mod OnePart
-pub mod Starred
+pub mod Worked

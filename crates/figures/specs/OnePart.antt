@@ -1,5 +1,6 @@
 -- The one-part chain of the worked figures, and the plans that sweeps lead to on it under the priced tariff.
 use Rattle.std.specs.Prelude.{◌≡◌, ℕ, List, [], ◌∷◌, map, replicate, pos, Option}
+use Rattle.certificate.specs.Certificates.{Sound}
 use Rattle.certificate.specs.Recipes.{Lowest, Highest}
 use Rattle.chain.specs.Chains.{chain_model}
 use Rattle.chain.specs.Limits.{most_life}
@@ -89,3 +90,5 @@ pub record SweepFigures : Type 0 where
   pub one_sweep : (table : List (Option ℕ)) → LeastTable (arcs_of lone_chain) table → TheOnly (lone_plant table) (priced_scale 10) 1 after_one
   -- and one after two, with 4100000000 for both
   pub two_sweeps : (table : List (Option ℕ)) → LeastTable (arcs_of lone_chain) table → TheOnly (lone_plant table) (priced_scale 10) 2 after_two
+  -- which is a sound certificate, so the check accepts it: some certificate is accepted
+  pub sound : (table : List (Option ℕ)) → LeastTable (arcs_of lone_chain) table → Sound (lone_plant table) (priced_scale 10) after_two.values after_two.policy after_two.low after_two.high

@@ -2,17 +2,15 @@
 #![tactic(auto)]
 
 ghost use Rattle.std.specs.Prelude.{◌≡◌};
-ghost use Rattle.figures.specs.OnePart.{SweepFigures};
-ghost use Rattle.figures.specs.Starred.{Starred};
+ghost use Rattle.figures.specs.Worked.{WorkedFigures};
 
-// How many groups of figures stand beside those of the sweeps: work orders, bills of a chain, survival of a pair.
-const GROUPS: u32 = 3;
+// How many groups of figures there are: work orders, bills of a chain, survival of a pair, plans after sweeps.
+const GROUPS: u32 = 4;
 
-// The figures hold. Its answer is the number of groups, those of the sweeps left out.
+// The figures hold. Its answer is the number of their groups.
 pub fn figures_hold() -> u32
-    ensures figures { Starred }
-    ensures sweeps { SweepFigures }
-    ensures groups { result ≡ 3 }
+    ensures figures { WorkedFigures }
+    ensures groups { result ≡ 4 }
 {
     GROUPS
 }

@@ -5,7 +5,4 @@ use Rattle.figures.proofs.OnePart.{figures as sweep_figures}
 use Rattle.figures.proofs.figures_hold.Goals as goal
 
 pub returns-clause-figures : goal.returns-clause-figures
-returns-clause-figures c = record { orders = order_figures; bills = chain_figures; survival = search rules }
-
-pub returns-clause-sweeps : goal.returns-clause-sweeps
-returns-clause-sweeps c = sweep_figures
+returns-clause-figures c = record { orders = order_figures; bills = chain_figures; survival = search rules; sweeps = sweep_figures }
