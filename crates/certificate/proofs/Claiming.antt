@@ -7,10 +7,11 @@ use Rattle.interface.specs.Rows.{Row}
 use Rattle.interface.specs.Tariffs.{Scale, LawfulScale, AtMost}
 use Rattle.lookahead.specs.Best.{Pick, first_best, Chosen, FirstBest, cheaper, dearer, where_feasible}
 use Rattle.lookahead.specs.Choices.{pick}
+use Rattle.lookahead.specs.declared.best.Aim.TheVariants.{Least, Greatest}
 use Rattle.lookahead.specs.declared.best.Choice.{Choice}
 use Rattle.lookahead.specs.Gains.{gain}
 use Rattle.lookahead.proofs.Bounds.{EachFit}
-use Rattle.lookahead.proofs.Firsts.{first_best_law}
+use Rattle.lookahead.proofs.Firsts.{aim_law}
 use Rattle.lookahead.proofs.Leasts.{gain_fits, rows_fit, least_law}
 use Rattle.certificate.specs.Certificates.{named}
 use Rattle.certificate.specs.Recipes.{row_of, state_low, policy_gain, Lowest, Highest}
@@ -57,7 +58,7 @@ module _ (m : Model) (lawful : Lawful m) (t : Scale) (scaled : LawfulScale t) (v
   low_fits s u h = let chosen = state_chosen s u h in rows_fit m t scaled G fits s chosen.0 u chosen.1.there
 
   lowest_law : (n : ℕ) → FirstBest (cheaper t) (state_low m t vs) n (first_best (cheaper t) (state_low m t vs) n)
-  lowest_law n = first_best_law (cheaper t) (λ u. length u ≡ t.places) scaled.total scaled.transitive (state_low m t vs) low_fits n
+  lowest_law = aim_law Least t scaled (state_low m t vs) low_fits
 
   lowest_some : FirstBest (cheaper t) (state_low m t vs) m.states None → ⊥
   lowest_some h =
@@ -104,8 +105,7 @@ module _ (m : Model) (lawful : Lawful m) (t : Scale) (scaled : LawfulScale t) (v
 
   module _ (ps : List ℕ) (feasible : (s : ℕ) → s < m.states → m.feasible s (named ps s) ≡ true) where
     highest_law : (n : ℕ) → FirstBest (dearer t) (policy_gain m t vs ps) n (first_best (dearer t) (policy_gain m t vs ps) n)
-    highest_law n = first_best_law (dearer t) (λ u. length u ≡ t.places) (λ u v p q. scaled.total v u q p) (λ u v w p q r a b. scaled.transitive w v u r q p b a)
-        (policy_gain m t vs ps) (λ s u h. rows_fit m t scaled G fits s (named ps s) u h) n
+    highest_law = aim_law Greatest t scaled (policy_gain m t vs ps) (λ s u h. rows_fit m t scaled G fits s (named ps s) u h)
 
     highest_some : FirstBest (dearer t) (policy_gain m t vs ps) m.states None → ⊥
     highest_some h =

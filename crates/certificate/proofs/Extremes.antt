@@ -5,12 +5,11 @@ use Rattle.std.specs.Option.{option_map}
 use Rattle.std.proofs.lemmas.List.{length-map}
 use Rattle.interface.specs.Rows.{Row}
 use Rattle.interface.specs.Tariffs.{Scale, LawfulScale}
-use Rattle.lookahead.specs.Best.{first_best, Chosen, FirstBest, cheaper, dearer}
+use Rattle.lookahead.specs.Best.{first_best, Chosen, FirstBest}
 use Rattle.lookahead.specs.declared.best.Aim.{Aim}
-use Rattle.lookahead.specs.declared.best.Aim.TheVariants.{Least, Greatest}
 use Rattle.lookahead.specs.declared.best.Choice.{Choice}
 use Rattle.lookahead.specs.Choices.{pick, good}
-use Rattle.lookahead.proofs.Firsts.{first_best_law}
+use Rattle.lookahead.proofs.Firsts.{aim_law}
 use Rattle.lookahead.proofs.Optional.{nth_there}
 
 rows_fit : {A : Type 0} (row : A → Row) (n : ℕ) → ((a : A) → length (row a) ≡ n) → (xs : List A) (k : ℕ) (u : Row) → slice_get (map row xs) k ≡ Some u → length u ≡ n
@@ -20,9 +19,7 @@ rows_fit row n f (x ∷ xs) (suc k) u h = rows_fit row n f xs k u h
 
 module _ {A : Type 0} (row : A → Row) (t : Scale) (scaled : LawfulScale t) (fits : (a : A) → length (row a) ≡ t.places) (xs : List A) where
   extreme_law : (aim : Aim) (n : ℕ) → FirstBest (good aim t) (slice_get (map row xs)) n (first_best (good aim t) (slice_get (map row xs)) n)
-  extreme_law Least n = first_best_law (cheaper t) (λ u. length u ≡ t.places) scaled.total scaled.transitive (slice_get (map row xs)) (rows_fit row t.places fits xs) n
-  extreme_law Greatest n = first_best_law (dearer t) (λ u. length u ≡ t.places) (λ u v p q. scaled.total v u q p) (λ u v w p q r a b. scaled.transitive w v u r q p b a)
-      (slice_get (map row xs)) (rows_fit row t.places fits xs) n
+  extreme_law aim = aim_law aim t scaled (slice_get (map row xs)) (rows_fit row t.places fits xs)
 
   module _ (aim : Aim) (o : Option (Choice A)) (is : option_map (pick row) o ≡ first_best (good aim t) (slice_get (map row xs)) (length xs)) where
     extreme_chosen : FirstBest (good aim t) (slice_get (map row xs)) (length xs) (option_map (pick row) o)
