@@ -5,7 +5,7 @@ use Rattle.certificate.specs.Recipes.{Lowest, Highest}
 use Rattle.chain.specs.Parts.{arcs_of}
 use Rattle.figures.proofs.LoneChain.{made, table_shape}
 use Rattle.figures.proofs.OnePlan.{plan_one}
-use Rattle.figures.specs.OnePart.{Plan, PlanAfter, SweepFigures, TheOnly, after_one, after_two, lone_chain, lone_plant, thousandths}
+use Rattle.figures.specs.OnePart.{Plan, Promised, SweepFigures, TheOnly, after_one, after_two, lone_chain, lone_plant, thousandths}
 use Rattle.interface.specs.Plants.{Model}
 use Rattle.interface.specs.Rows.{Row, share, minus}
 use Rattle.interface.specs.Tariffs.{Scale, AtMost}
@@ -144,7 +144,7 @@ module _ (rest : List (Option ℕ)) where
   highest_at_zero : (vs : List Row) (ps : List ℕ) (u : Row) → u ≡ gain plant scale vs 0 (named ps 0) → ((s : ℕ) → s < 4 → AtMost scale (gain plant scale vs s (named ps s)) u) → Highest plant scale vs ps u
   highest_at_zero vs ps u there greatest = record { state = 0; inside = lit≤ tt; there = there; greatest = greatest; first = λ s l. absurd (omega arith) }
 
-  plan_once : PlanAfter plant scale 1 after_one
+  plan_once : Promised plant scale 1 after_one
   plan_once = record {
     swept = swept_once;
     chosen = choose after_one.values pick_one found_one after_one.policy refl (λ s l. refl);
@@ -153,7 +153,7 @@ module _ (rest : List (Option ℕ)) where
         (each_state (λ s. AtMost scale (gain plant scale after_one.values s (named after_one.policy s)) after_one.high) refl refl refl refl);
   }
 
-  plan_twice : PlanAfter plant scale 2 after_two
+  plan_twice : Promised plant scale 2 after_two
   plan_twice = record {
     swept = swept_twice;
     chosen = choose after_two.values pick_two found_two after_two.policy refl (λ s l. refl);
@@ -174,10 +174,10 @@ module _ (rest : List (Option ℕ)) where
     high_holds = plan_twice.highest.greatest;
   }
 
-only : (k : ℕ) (p : Plan) (table : List (Option ℕ)) → LeastTable (arcs_of lone_chain) table → ((rest : List (Option ℕ)) → PlanAfter (plant rest) scale k p) → TheOnly (lone_plant table) scale k p
+only : (k : ℕ) (p : Plan) (table : List (Option ℕ)) → LeastTable (arcs_of lone_chain) table → ((rest : List (Option ℕ)) → Promised (plant rest) scale k p) → TheOnly (lone_plant table) scale k p
 only k p table right plan =
     let begins = table_shape table right in
-    let itself = subst (λ w. PlanAfter (lone_plant w) scale k p) begins.1 (plan begins.0) in
+    let itself = subst (λ w. Promised (lone_plant w) scale k p) begins.1 (plan begins.0) in
     record { itself = itself; only = λ q h. plan_one (lone_plant table) scale k p q itself h }
 
 pub figures : SweepFigures

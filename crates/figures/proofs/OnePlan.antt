@@ -2,7 +2,7 @@
 use Rattle.std.proofs.Common.{◌≡◌, ℕ, ◌<◌, Bool, true, ◌⊎◌, List, Option, sym, ap, ◌∙◌, subst, inl, inr, arith}
 use Rattle.certificate.specs.Certificates.{named}
 use Rattle.certificate.specs.Recipes.{Lowest, Highest}
-use Rattle.figures.specs.OnePart.{Plan, PlanAfter}
+use Rattle.figures.specs.OnePart.{Plan, Promised}
 use Rattle.interface.specs.Plants.{Model}
 use Rattle.interface.specs.Rows.{Row}
 use Rattle.interface.specs.Tariffs.{Scale}
@@ -56,7 +56,7 @@ module _ (m : Model) (t : Scale) (vs : List Row) where
           both_ways (t.at_most v (gain m t vs a.state (named ps a.state))) (b.first a.state before)
           (subst (λ w. t.at_most v w ≡ true) a.there (subst (λ w. t.at_most w u ≡ true) (sym b.there) (a.greatest b.state b.inside)))
 
-pub plan_one : (m : Model) (t : Scale) (k : ℕ) (p q : Plan) → PlanAfter m t k p → PlanAfter m t k q → q ≡ p
+pub plan_one : (m : Model) (t : Scale) (k : ℕ) (p q : Plan) → Promised m t k p → Promised m t k q → q ≡ p
 plan_one m t k p q a b =
     let values = swept_one m t b.swept a.swept in
     let chosen = subst (λ vs. Chooses m t vs q.policy) values b.chosen in

@@ -1,7 +1,6 @@
 -- The one-part chain of the worked figures, and the plans that sweeps lead to on it under the priced tariff.
 use Rattle.std.specs.Prelude.{◌≡◌, ℕ, List, [], ◌∷◌, map, replicate, pos, Option}
 use Rattle.certificate.specs.Certificates.{Sound}
-use Rattle.certificate.specs.Recipes.{Lowest, Highest}
 use Rattle.chain.specs.Chains.{chain_model}
 use Rattle.chain.specs.Limits.{most_life}
 use Rattle.chain.specs.Made.{Made}
@@ -11,7 +10,7 @@ use Rattle.chain.specs.declared.numbers.Part.{Part}
 use Rattle.interface.specs.Plants.{Model}
 use Rattle.interface.specs.Rows.{Row}
 use Rattle.interface.specs.Tariffs.{Scale}
-use Rattle.planner.specs.Sweeps.{Swept, Chooses}
+use Rattle.planner.specs.Plans.{PlanAfter}
 use Rattle.tariffs.specs.Priced.{priced_scale}
 use Rattle.workorder.specs.Figures.{arc}
 use Rattle.workorder.specs.Orders.{LeastTable}
@@ -47,18 +46,14 @@ pub record Plan : Type 0 where
   pub low : Row
   pub high : Row
 
--- The plan is what the planner promises after so many sweeps: the values they lead to, the policy chosen by these,
--- the least gain of all, and the greatest of the policy's.
-pub record PlanAfter (m : Model) (t : Scale) (sweeps : ℕ) (p : Plan) : Type 0 where
-  pub swept : Swept m t sweeps p.values
-  pub chosen : Chooses m t p.values p.policy
-  pub lowest : Lowest m t p.values p.low
-  pub highest : Highest m t p.values p.policy p.high
+-- The plan is what the planner promises after so many sweeps.
+abbrev pub Promised : Model → Scale → ℕ → Plan → Type 0
+Promised m t sweeps p = PlanAfter m t sweeps p.values p.policy p.low p.high
 
 -- This is such a plan, and there is no other.
 pub record TheOnly (m : Model) (t : Scale) (sweeps : ℕ) (p : Plan) : Type 0 where
-  pub itself : PlanAfter m t sweeps p
-  pub only : (q : Plan) → PlanAfter m t sweeps q → q ≡ p
+  pub itself : Promised m t sweeps p
+  pub only : (q : Plan) → Promised m t sweeps q → q ≡ p
 
 -- Rows of one place.
 abbrev pub thousandths : ℕ → Row

@@ -4,10 +4,10 @@ use Rattle.interface.specs.Plants.{Model}
 use Rattle.interface.specs.Rows.{Row}
 use Rattle.interface.specs.Tariffs.{Scale}
 use Rattle.interface.specs.declared.claims.Claims.{Claims}
-use Rattle.certificate.specs.Recipes.{Lowest, Highest}
 use Rattle.planner.specs.declared.refusal.Refusal.{Refusal}
 use Rattle.planner.specs.declared.refusal.Refusal.TheVariants.{TooManySweeps, WrongLength, BeyondReach}
-use Rattle.planner.specs.Sweeps.{most_sweeps, blank, Swept, Stuck, Chooses}
+use Rattle.planner.specs.Plans.{PlanAfter}
+use Rattle.planner.specs.Sweeps.{most_sweeps, blank, Swept, Stuck}
 
 -- The three tables: values and working as amounts, and the policy.
 pub record Tables (A : Type 0) : Type 0 where
@@ -21,12 +21,9 @@ pub record Level {A : Type 0} (m : Model) (b : Tables A) : Type 0 where
   pub working : length b.working ≡ m.states
   pub policy : length b.policy ≡ m.states
 
--- A plan: the values of all sweeps, the policy chosen by them, and the claims of the recipe; the working table is zero.
+-- The values, the policy and the claims are the plan after all sweeps; the working table is zero.
 pub record Planned {A : Type 0} (row : A → Row) (m : Model) (t : Scale) (n : ℕ) (b : Tables A) (c : Claims A) : Type 0 where
-  pub swept : Swept m t n (map row b.values)
-  pub chosen : Chooses m t (map row b.values) b.policy
-  pub low : Lowest m t (map row b.values) (row c.low)
-  pub high : Highest m t (map row b.values) b.policy (row c.high)
+  pub plan : PlanAfter m t n (map row b.values) b.policy (row c.low) (row c.high)
   pub cleared : map row b.working ≡ blank t m.states
 
 -- A sweep that leaves a value beyond reach: the values are those of the last whole sweep, the other tables zero.

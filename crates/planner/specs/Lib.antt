@@ -1,3 +1,4 @@
 pub mod Answers
+pub mod Plans
 pub mod Refusals
 pub mod Sweeps

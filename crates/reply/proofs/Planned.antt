@@ -5,9 +5,9 @@ use Rattle.interface.specs.Plants.{Model}
 use Rattle.interface.specs.Rows.{Row}
 use Rattle.interface.specs.Tariffs.{Scale}
 use Rattle.interface.specs.declared.claims.Claims.{Claims}
-use Rattle.certificate.specs.Recipes.{Lowest, Highest}
 use Rattle.planner.specs.declared.refusal.Refusal.{Refusal as PlannerRefusal}
 use Rattle.planner.specs.Answers.{Tables, Answer}
+use Rattle.planner.specs.Plans.{PlanAfter}
 use Rattle.plantext.specs.Lines.{plan_text}
 use Rattle.reply.specs.declared.answer.Refusal.{Refusal}
 use Rattle.reply.specs.Plans.{plan_of, PlanFor}
@@ -16,13 +16,9 @@ use Rattle.reply.specs.Plans.{plan_of, PlanFor}
 pub plan_for : {A : Type 0} (Q : PlannerRefusal → Refusal → Type 0) (row : A → Row) (m : Model) (t : Scale) (n : ℕ) (b b' : Tables A) (planned : Result (Claims A) PlannerRefusal) (r : Result (Claims A) Refusal) (c : Claims A) (text : List ℕ) → r ≡ Ok c → Answer row m t n b b' planned → MatchResult planned (λ x. r ≡ Ok x) (λ y. IsErrAnd r (Q y)) → text ≡ plan_text (plan_of row b'.values b'.policy c) → PlanFor m t n text
 plan_for Q row m t n b b' (Ok x) r c text is h j written =
     let same : x ≡ c = cc in
-    let made = h.2 in
     record {
       plan = plan_of row b'.values b'.policy c;
-      swept = made.swept;
-      chosen = made.chosen;
-      low = subst (λ k. Lowest m t (map row b'.values) (row k.low)) same made.low;
-      high = subst (λ k. Highest m t (map row b'.values) b'.policy (row k.high)) same made.high;
+      after = subst (λ k. PlanAfter m t n (map row b'.values) b'.policy (row k.low) (row k.high)) same h.2.plan;
       written = written;
     }
 plan_for Q row m t n b b' (Err y) (Ok z) c text is h j written = absurd j

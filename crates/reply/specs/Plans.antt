@@ -4,22 +4,18 @@ use Rattle.interface.specs.Plants.{Model}
 use Rattle.interface.specs.Rows.{Row}
 use Rattle.interface.specs.Tariffs.{Scale}
 use Rattle.interface.specs.declared.claims.Claims.{Claims}
-use Rattle.certificate.specs.Recipes.{Lowest, Highest}
-use Rattle.planner.specs.Sweeps.{Swept, Stuck, Chooses}
+use Rattle.planner.specs.Plans.{PlanAfter}
+use Rattle.planner.specs.Sweeps.{Swept, Stuck}
 use Rattle.plantext.specs.Lines.{Plan, plan_text}
 
 -- what tables and claims mean
 abbrev pub plan_of : {A : Type 0} → (A → Row) → List A → List ℕ → Claims A → Plan
 plan_of row values policy c = record { values = map row values; policy = policy; low = row c.low; high = row c.high }
 
--- The text of the plan of a plant under a tariff: its values are those of so many sweeps, its policy is chosen by them, and its
--- claims are the least gain of all and the greatest of the policy's.
+-- The text of a plant's plan after so many sweeps under a tariff.
 pub record PlanFor (m : Model) (t : Scale) (sweeps : ℕ) (text : List ℕ) : Type 0 where
   pub plan : Plan
-  pub swept : Swept m t sweeps plan.values
-  pub chosen : Chooses m t plan.values plan.policy
-  pub low : Lowest m t plan.values plan.low
-  pub high : Highest m t plan.values plan.policy plan.high
+  pub after : PlanAfter m t sweeps plan.values plan.policy plan.low plan.high
   pub written : text ≡ plan_text plan
 
 -- One of so many sweeps would leave the value of this state beyond reach.
