@@ -2,7 +2,7 @@
 use Rattle.std.proofs.Common.{◌≡◌, ℕ, ◌<◌, Bool, true, false, cond, List, length, Some, None, Option, sym, refl, ap, ◌∙◌, subst, ⊎_elim, arith}
 use Rattle.std.specs.Option.{option_map}
 use Rattle.std.proofs.lemmas.Bool.{cases_Bool, both_ways}
-use Rattle.interface.specs.Plants.{Model, Lawful}
+use Rattle.interface.specs.Plants.{Model, Lawful, named}
 use Rattle.interface.specs.Rows.{Row}
 use Rattle.interface.specs.Tariffs.{Scale, LawfulScale, AtMost}
 use Rattle.lookahead.specs.Best.{Pick, first_best, Chosen, FirstBest, cheaper, dearer, where_feasible}
@@ -13,7 +13,6 @@ use Rattle.lookahead.specs.Gains.{gain}
 use Rattle.lookahead.proofs.Bounds.{EachFit}
 use Rattle.lookahead.proofs.Firsts.{aim_law}
 use Rattle.lookahead.proofs.Leasts.{gain_fits, rows_fit, least_law}
-use Rattle.certificate.specs.Certificates.{named}
 use Rattle.certificate.specs.Recipes.{row_of, state_low, policy_gain, Lowest, Highest}
 
 -- what is there is of a feasible portfolio

@@ -1,13 +1,13 @@
 -- From the first test that fails to the reason.
 use Rattle.std.proofs.Common.{◌≡◌, ℕ, Bool, true, false, cond, ◌&&◌, eqb, leb, inl, inr, List, length, Some, None, sym, refl, subst, ⊎_elim, arith}
 use Rattle.std.proofs.lemmas.Bool.{and_parts, and_from, leb-true, leb-false, le-leb, eqb-true, eq-eqb, both_ways}
-use Rattle.interface.specs.Plants.{Model, Lawful}
+use Rattle.interface.specs.Plants.{Model, Lawful, named}
 use Rattle.interface.specs.Rows.{Row, reach}
 use Rattle.interface.specs.Tariffs.{Scale}
-use Rattle.lookahead.specs.Gains.{most_value, value_of, gain, Within}
+use Rattle.interface.specs.Limits.{most_value, most_claim}
+use Rattle.lookahead.specs.Gains.{value_of, gain, Within}
 use Rattle.certificate.specs.declared.refusal.Refusal.{Refusal}
 use Rattle.certificate.specs.declared.refusal.Refusal.TheVariants.{WrongLength, BeyondReach, Infeasible, LowBroken, HighBroken}
-use Rattle.certificate.specs.Certificates.{most_claim, named}
 use Rattle.certificate.specs.Reasons.{Level, ClaimsNear, FarValue, Before, LowFails, Reason, RecipeReason}
 use Rattle.certificate.specs.Recipes.{policy_fault, recipe_refusal}
 use Rattle.certificate.specs.Refusals.{first_fault, each, value_fault, low_test, state_fault, level, refusal}

@@ -2,12 +2,11 @@
 use Rattle.std.proofs.Common.{◌≡◌, ℕ, Bool, true, false, cond, ◌&&◌, eqb, List, map, length, Some, None, sym, refl, ap, ◌∙◌, subst, arith}
 use Rattle.std.proofs.lemmas.List.{length-map}
 use Rattle.std.proofs.lemmas.Bool.{and_parts, and_from, eqb-true, eq-eqb, cond-true}
-use Rattle.interface.specs.Plants.{Model}
+use Rattle.interface.specs.Plants.{Model, named}
 use Rattle.interface.specs.Rows.{Row}
 use Rattle.interface.specs.Tariffs.{Scale}
 use Rattle.lookahead.specs.Gains.{Within}
 use Rattle.certificate.specs.declared.refusal.Refusal.TheVariants.{WrongLength, Infeasible}
-use Rattle.certificate.specs.Certificates.{named}
 use Rattle.certificate.specs.Recipes.{Fitting, policy_fault, recipe_refusal}
 use Rattle.certificate.specs.Refusals.{or_else, first_fault, value_fault, level}
 use Rattle.certificate.proofs.Faults.{level_map, or_none, none_below, none_from}

@@ -1,12 +1,13 @@
 -- No test fails exactly when the certificate is sound.
 use Rattle.std.proofs.Common.{◌≡◌, ℕ, zero, suc, ◌<◌, ◌≤◌, Bool, true, false, cond, ◌&&◌, eqb, leb, List, [], ◌∷◌, length, get_or, Some, None, Option, ◌⊎◌, inl, inr, sym, refl, ap, ◌∙◌, subst, arith}
 use Rattle.std.proofs.lemmas.Bool.{and_parts, and_from, leb-true, le-leb, eqb-true, eq-eqb, cond-true}
-use Rattle.interface.specs.Plants.{Model, Lawful}
+use Rattle.interface.specs.Plants.{Model, Lawful, named}
 use Rattle.interface.specs.Rows.{Row, zeros, reach}
 use Rattle.interface.specs.Tariffs.{Scale, AtMost}
-use Rattle.lookahead.specs.Gains.{most_value, value_of, gain, Near}
+use Rattle.interface.specs.Limits.{most_value, most_claim}
+use Rattle.lookahead.specs.Gains.{value_of, gain, Near}
 use Rattle.certificate.specs.declared.refusal.Refusal.TheVariants.{WrongLength, BeyondReach, Infeasible, LowBroken, HighBroken}
-use Rattle.certificate.specs.Certificates.{most_claim, named, Sound}
+use Rattle.certificate.specs.Certificates.{Sound}
 use Rattle.certificate.specs.Reasons.{Holds}
 use Rattle.certificate.specs.Refusals.{or_else, first_fault, each, value_fault, low_test, state_fault, level, refusal}
 use Rattle.certificate.proofs.Faults.{none_below, none_from, each_at, each_from, or_none}

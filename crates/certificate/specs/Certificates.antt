@@ -1,19 +1,12 @@
 -- Sound certificates: a value table, a policy, and the claims low and high.
-use Rattle.std.specs.Prelude.{◌≡◌, ℕ, ◌<◌, ◌≤◌, true, List, length, slice_index}
+use Rattle.std.specs.Prelude.{◌≡◌, ℕ, ◌<◌, ◌≤◌, true, List, length}
 use Rattle.std.specs.List.{slice_get}
-use Rattle.interface.specs.Plants.{Model}
+use Rattle.interface.specs.Limits.{most_claim}
+use Rattle.interface.specs.Plants.{Model, named}
 use Rattle.interface.specs.Rows.{Row, reach}
 use Rattle.interface.specs.Tariffs.{Scale, AtMost}
 use Rattle.lookahead.specs.Best.{Chosen, cheaper, dearer}
 use Rattle.lookahead.specs.Gains.{gain, Within}
-
--- the farthest that low and high may reach: 10^17
-abbrev pub most_claim : ℕ
-most_claim = 100000000000000000
-
--- The portfolio that a policy names for a state.
-abbrev pub named : List ℕ → ℕ → ℕ
-named ps s = slice_index ps s
 
 -- A certificate is sound: both tables have an entry for each state, the values and the claims are within reach,
 -- and wherever one stands: what the policy names may be done, whatever may be done gains no less than low, and what the

@@ -1,12 +1,12 @@
 -- Why a certificate or a recipe is refused, by case: what fails at the place that is told, and what holds of all before it.
 use Rattle.std.specs.Prelude.{◌≡◌, ℕ, ◌<◌, ◌≤◌, true, false, ◌⊎◌, List, length}
-use Rattle.interface.specs.Plants.{Model}
+use Rattle.interface.specs.Plants.{Model, named}
 use Rattle.interface.specs.Rows.{Row, reach}
 use Rattle.interface.specs.Tariffs.{Scale, AtMost}
-use Rattle.lookahead.specs.Gains.{most_value, value_of, gain, Within}
+use Rattle.interface.specs.Limits.{most_value, most_claim}
+use Rattle.lookahead.specs.Gains.{value_of, gain, Within}
 use Rattle.certificate.specs.declared.refusal.Refusal.{Refusal}
 use Rattle.certificate.specs.declared.refusal.Refusal.TheVariants.{WrongLength, BeyondReach, Infeasible, LowBroken, HighBroken}
-use Rattle.certificate.specs.Certificates.{most_claim, named}
 
 -- Both tables have an entry for each state.
 pub record Level (m : Model) (vs : List Row) (ps : List ℕ) : Type 0 where

@@ -1,13 +1,12 @@
 -- The recipe: of a value table and a policy, the least gain of all feasible portfolios and the greatest of the policy's.
 use Rattle.std.specs.Prelude.{◌≡◌, ℕ, ◌<◌, true, false, cond, ◌⊎◌, List, length, Some, None, Option}
-use Rattle.interface.specs.Plants.{Model}
+use Rattle.interface.specs.Plants.{Model, named}
 use Rattle.interface.specs.Rows.{Row}
 use Rattle.interface.specs.Tariffs.{Scale, AtMost}
 use Rattle.lookahead.specs.Best.{Pick, first_best, cheaper, where_feasible}
 use Rattle.lookahead.specs.Gains.{gain, Within}
 use Rattle.certificate.specs.declared.refusal.Refusal.{Refusal}
 use Rattle.certificate.specs.declared.refusal.Refusal.TheVariants.{WrongLength, Infeasible}
-use Rattle.certificate.specs.Certificates.{named}
 use Rattle.certificate.specs.Refusals.{or_else, first_fault, value_fault, level}
 
 -- The least gain of all feasible portfolios, the first by state and then by portfolio.

@@ -1,12 +1,12 @@
 -- Why a certificate is refused: the first test that fails, with its number and its place.
 use Rattle.std.specs.Prelude.{ℕ, zero, suc, Bool, true, cond, ◌&&◌, List, length, Some, None, Option, ◌==◌, nat_le}
-use Rattle.interface.specs.Plants.{Model}
+use Rattle.interface.specs.Plants.{Model, named}
 use Rattle.interface.specs.Rows.{Row, reach}
 use Rattle.interface.specs.Tariffs.{Scale}
-use Rattle.lookahead.specs.Gains.{most_value, value_of, gain}
+use Rattle.interface.specs.Limits.{most_value, most_claim}
+use Rattle.lookahead.specs.Gains.{value_of, gain}
 use Rattle.certificate.specs.declared.refusal.Refusal.{Refusal}
 use Rattle.certificate.specs.declared.refusal.Refusal.TheVariants.{WrongLength, BeyondReach, Infeasible, LowBroken, HighBroken}
-use Rattle.certificate.specs.Certificates.{most_claim, named}
 
 abbrev pub number_of : Refusal → ℕ
 number_of WrongLength = 7

@@ -2,7 +2,8 @@
 ghost use Rattle.std.specs.Prelude.{◌≡◌, ℕ, List, ◌&&◌, map, length, ◌==◌, nat_le, IfErr};
 ghost use Rattle.std.specs.Result.{result_err};
 ghost use Rattle.interface.specs.Rows.{reach};
-ghost use Rattle.certificate.specs.Certificates.{most_claim, named};
+ghost use Rattle.interface.specs.Limits.{most_claim};
+ghost use Rattle.interface.specs.Plants.{named};
 ghost use Rattle.certificate.specs.Findings.{Verdict, ExactlySound};
 ghost use Rattle.certificate.specs.Reasons.{Reason};
 ghost use Rattle.certificate.specs.Refusals.{refusal, first_fault, value_fault, each, low_test, state_fault};
@@ -11,17 +12,12 @@ use crate::finding;
 use crate::finding::Finding;
 use crate::refusal::Refusal;
 use interface::claims::Claims;
+use interface::limits::{MOST_CLAIM, MOST_VALUE};
 use interface::plant::Plant;
 use interface::tariff::Tariff;
 use lookahead::best::Aim;
 use lookahead::table::ValueTable;
 use lookahead::valued::ValuedPlant;
-
-// The farthest that a value of a table may reach.
-pub const MOST_VALUE: u64 = 1_000_000_000_000;
-
-// The farthest that low and high may reach.
-pub const MOST_CLAIM: u64 = 100_000_000_000_000_000;
 
 // Refused by the first value beyond reach. By a `for` over the lent table with its index, which is the place of the refusal.
 pub(crate) fn values_near<T: Tariff>(tariff: &T, values: &[T::Amount]) -> Result<(), Refusal>

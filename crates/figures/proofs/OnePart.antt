@@ -1,12 +1,12 @@
 -- The plans of the one-part chain. Its two least work orders are known, and all else computes.
 use Rattle.std.proofs.Common.{◌≡◌, ℕ, zero, suc, ◌<◌, ◌≤◌, true, false, ◌&&◌, ltb, ◌⊎◌, List, [], ◌∷◌, length, Some, Option, refl, subst, inl, inr, arith, lit≤}
-use Rattle.certificate.specs.Certificates.{Sound, named}
+use Rattle.certificate.specs.Certificates.{Sound}
 use Rattle.certificate.specs.Recipes.{Lowest, Highest}
 use Rattle.chain.specs.Parts.{arcs_of}
 use Rattle.figures.proofs.LoneChain.{made, table_shape}
 use Rattle.figures.proofs.OnePlan.{plan_one}
 use Rattle.figures.specs.OnePart.{Plan, Promised, SweepFigures, TheOnly, after_one, after_two, lone_chain, lone_plant, thousandths}
-use Rattle.interface.specs.Plants.{Model}
+use Rattle.interface.specs.Plants.{Model, named}
 use Rattle.interface.specs.Rows.{Row, share, minus}
 use Rattle.interface.specs.Tariffs.{Scale, AtMost}
 use Rattle.lookahead.proofs.Firsts.{first_best_law}

@@ -1,9 +1,8 @@
 -- So many sweeps have one plan at most, whatever the plant and the tariff.
 use Rattle.std.proofs.Common.{◌≡◌, ℕ, ◌<◌, Bool, true, ◌⊎◌, List, Option, sym, ap, ◌∙◌, subst, inl, inr, arith}
-use Rattle.certificate.specs.Certificates.{named}
 use Rattle.certificate.specs.Recipes.{Lowest, Highest}
 use Rattle.figures.specs.OnePart.{Plan, Promised}
-use Rattle.interface.specs.Plants.{Model}
+use Rattle.interface.specs.Plants.{Model, named}
 use Rattle.interface.specs.Rows.{Row}
 use Rattle.interface.specs.Tariffs.{Scale}
 use Rattle.lookahead.specs.Best.{Chosen, Pick}

@@ -42,3 +42,15 @@ most_reach = 1000000000000000000
 -- the largest number by which an amount is multiplied
 abbrev pub most_factor : ℕ
 most_factor = 10000
+
+-- the farthest that a value of a table may reach: 10^12
+abbrev pub most_value : ℕ
+most_value = 1000000000000
+
+-- the farthest that the claims low and high may reach: 10^17
+abbrev pub most_claim : ℕ
+most_claim = 100000000000000000
+
+-- the most windows that a book takes
+abbrev pub most_windows : ℕ
+most_windows = 1000000

@@ -1,5 +1,5 @@
 -- What a plant means, and the laws that every plant keeps.
-use Rattle.std.specs.Prelude.{◌≡◌, ℕ, ◌+◌, ◌<◌, ◌≤◌, Bool, true, cond, List, [], ◌∷◌, length, Some, None, Option}
+use Rattle.std.specs.Prelude.{◌≡◌, ℕ, ◌+◌, ◌<◌, ◌≤◌, Bool, true, cond, List, [], ◌∷◌, length, slice_index, Some, None, Option}
 use Rattle.interface.specs.declared.plant.Bill.{Bill}
 use Rattle.interface.specs.declared.plant.Outcome.{Outcome}
 use Rattle.interface.specs.Limits.{most_states, most_portfolios, most_outcomes, most_seconds, most_cents, whole}
@@ -19,6 +19,10 @@ bill_of m s x = cond (m.feasible s x) (Some (m.bill s x)) None
 -- The outcomes of a pair, none when it is not feasible.
 abbrev pub outcomes_of : Model → ℕ → ℕ → List Outcome
 outcomes_of m s x = cond (m.feasible s x) (m.outcomes s x) []
+
+-- The portfolio that a policy names for a state.
+abbrev pub named : List ℕ → ℕ → ℕ
+named ps s = slice_index ps s
 
 pub record LawfulBill (b : Bill) : Type 0 where
   pub dark : b.seconds ≤ most_seconds

@@ -1,6 +1,6 @@
 // The limits of every plant and tariff, each named once; specs/Limits.antt has the same numbers for the contracts.
 ghost use Rattle.std.specs.Prelude.{◌≡◌};
-ghost use Rattle.interface.specs.Limits.{most_states, most_portfolios, most_outcomes, most_seconds, most_cents, whole, most_charge, most_threshold, most_places, most_reach, most_factor};
+ghost use Rattle.interface.specs.Limits.{most_states, most_portfolios, most_outcomes, most_seconds, most_cents, whole, most_charge, most_threshold, most_places, most_reach, most_factor, most_value, most_claim, most_windows};
 
 pub const MOST_STATES: usize = 4096;
 
@@ -25,6 +25,15 @@ pub const MOST_REACH: u64 = 1_000_000_000_000_000_000;
 // The largest number by which an amount is multiplied.
 pub const MOST_FACTOR: u32 = 10_000;
 
+/// The farthest that a value of a table may reach.
+pub const MOST_VALUE: u64 = 1_000_000_000_000;
+
+/// The farthest that the claims low and high may reach.
+pub const MOST_CLAIM: u64 = 100_000_000_000_000_000;
+
+/// The most windows that a book takes.
+pub const MOST_WINDOWS: u32 = 1_000_000;
+
 // The constants above are the numbers that the laws of plants and tariffs name. Nothing is done here, since a constant has
 // no clauses of its own: the function stands for its clauses.
 pub fn all()
@@ -32,4 +41,6 @@ pub fn all()
     ensures bill { (MOST_SECONDS ≡ most_seconds) × (MOST_CENTS ≡ most_cents) }
     ensures described { (MOST_CHARGE ≡ most_charge) × (MOST_THRESHOLD ≡ most_threshold) }
     ensures amount { (MOST_PLACES ≡ most_places) × (MOST_REACH ≡ most_reach) × (MOST_FACTOR ≡ most_factor) }
+    ensures certificate { (MOST_VALUE ≡ most_value) × (MOST_CLAIM ≡ most_claim) }
+    ensures book { MOST_WINDOWS ≡ most_windows }
 {}

@@ -7,11 +7,11 @@ use Rattle.std.proofs.lemmas.Bool.Decides.{nat_tests}
 use Rattle.std.specs.List.{slice_get}
 use Rattle.interface.specs.declared.plant.Bill.{Bill}
 use Rattle.interface.specs.declared.plant.Outcome.{Outcome}
-use Rattle.interface.specs.Limits.{whole, most_reach, most_factor, most_price}
+use Rattle.interface.specs.Limits.{whole, most_reach, most_factor, most_price, most_value}
 use Rattle.interface.specs.Plants.{Model, Lawful, LawfulBill, weights, Inside}
 use Rattle.interface.specs.Rows.{Row, zeros, plus, minus, times, reach}
 use Rattle.interface.specs.Tariffs.{Scale, LawfulScale, price, summable, multipliable, billable}
-use Rattle.lookahead.specs.Gains.{most_value, value_of, expected, look_ahead, gain, Near, Within}
+use Rattle.lookahead.specs.Gains.{value_of, expected, look_ahead, gain, Near, Within}
 use Rattle.lookahead.specs.Steps.{then, summed, lessened, multiplied, priced, add_outcome, add_outcomes, look_ahead_steps, gain_steps}
 
 -- reaches

@@ -3,14 +3,10 @@ use Rattle.std.specs.Prelude.{◌≡◌, ℕ, ◌≤◌, List, [], ◌∷◌, le
 use Rattle.std.specs.Coded.{Coded-set, coded_ℕ, ×_prop, Unit-prop, le_prop}
 use Rattle.std.proofs.Math.Path.{ap, ◌∙◌}
 use Rattle.interface.specs.declared.plant.Outcome.{Outcome}
-use Rattle.interface.specs.Limits.{whole}
+use Rattle.interface.specs.Limits.{whole, most_value}
 use Rattle.interface.specs.Plants.{Model}
 use Rattle.interface.specs.Rows.{Row, zeros, plus, minus, times, reach}
 use Rattle.interface.specs.Tariffs.{Scale, price}
-
--- the farthest that a value of a table may reach: 10^12
-abbrev pub most_value : ℕ
-most_value = 1000000000000
 
 -- A value table has one row to each state.
 abbrev pub value_of : Scale → List Row → ℕ → Row

@@ -1,11 +1,11 @@
 -- What a sweep does to a value table, and what tables some sweeps lead to.
 use Rattle.std.specs.Prelude.{◌≡◌, ℕ, zero, suc, ◌<◌, ◌≤◌, List, length, replicate}
-use Rattle.interface.specs.Plants.{Model}
+use Rattle.interface.specs.Plants.{Model, named}
 use Rattle.interface.specs.Rows.{Row, zeros, minus, share, reach}
 use Rattle.interface.specs.Tariffs.{Scale}
+use Rattle.interface.specs.Limits.{most_value}
 use Rattle.lookahead.specs.Best.{Chosen, cheaper, where_feasible}
-use Rattle.lookahead.specs.Gains.{most_value, value_of, look_ahead, Near}
-use Rattle.certificate.specs.Certificates.{named}
+use Rattle.lookahead.specs.Gains.{value_of, look_ahead, Near}
 
 -- the largest number of sweeps
 abbrev pub most_sweeps : ℕ

@@ -7,7 +7,7 @@ ghost use Rattle.planner.specs.declared.refusal.Refusal.TheVariants.{BeyondReach
 ghost use Rattle.planner.specs.Sweeps.{blank, LeastAhead, Shared, Sweep, Swept, Stuck, Chooses};
 
 use crate::refusal::Refusal;
-use certificate::check::MOST_VALUE;
+use interface::limits::MOST_VALUE;
 use interface::plant::Plant;
 use interface::tariff::Tariff;
 use lookahead::best::Choice;

@@ -1,6 +1,6 @@
 use Rattle.std.proofs.Common.{◌≡◌, Err, map, sym, ap, ◌∙◌, rules}
 use Rattle.std.specs.Result.{result_err}
-use Rattle.certificate.specs.Certificates.{named}
+use Rattle.interface.specs.Plants.{named}
 use Rattle.certificate.specs.Refusals.{state_fault}
 use Rattle.certificate.proofs.Faults.{fault_at}
 use Rattle.certificate.proofs.check.states_hold.Goals as goal

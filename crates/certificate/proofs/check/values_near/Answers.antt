@@ -1,7 +1,8 @@
 use Rattle.std.proofs.Common.{◌≡◌, true, false, cond, leb, map, Some, None, sym, ap, ◌∙◌}
 use Rattle.std.proofs.lemmas.Bool.{le-leb, lt-leb}
 use Rattle.interface.specs.Rows.{reach}
-use Rattle.lookahead.specs.Gains.{most_value, value_of}
+use Rattle.interface.specs.Limits.{most_value}
+use Rattle.lookahead.specs.Gains.{value_of}
 use Rattle.certificate.specs.declared.refusal.Refusal.TheVariants.{BeyondReach}
 use Rattle.certificate.specs.Refusals.{value_fault}
 use Rattle.certificate.proofs.Faults.{fault_at, fault_more, value_read}

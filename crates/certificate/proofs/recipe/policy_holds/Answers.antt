@@ -1,5 +1,5 @@
 use Rattle.std.proofs.Common.{◌≡◌, cond, Some, None, sym, ap, ◌∙◌, rules}
-use Rattle.certificate.specs.Certificates.{named}
+use Rattle.interface.specs.Plants.{named}
 use Rattle.certificate.specs.declared.refusal.Refusal.TheVariants.{Infeasible}
 use Rattle.certificate.specs.Recipes.{policy_fault}
 use Rattle.certificate.proofs.Faults.{fault_at}

@@ -1,8 +1,8 @@
 use Rattle.std.proofs.Common.{map}
+use Rattle.interface.specs.Plants.{named}
 use Rattle.lookahead.specs.Gains.{look_ahead}
 use Rattle.certificate.proofs.Claiming.{feasible_of}
 use Rattle.certificate.proofs.Refused.{fitting_to}
-use Rattle.certificate.specs.Certificates.{named}
 use Rattle.planner.proofs.Claimed.{recipe_there}
 use Rattle.planner.proofs.Sweeping.{swept_within}
 use Rattle.planner.proofs.Unique.{swept_one}

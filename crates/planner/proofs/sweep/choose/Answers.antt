@@ -1,7 +1,7 @@
 use Rattle.std.proofs.Common.{◌<◌, ◌≢◌, map, length, set, sym, subst, arith, below_more}
 use Rattle.std.proofs.lemmas.List.{get_or-set_same, get_or-set_other}
 use Rattle.interface.specs.Rows.{Row}
-use Rattle.certificate.specs.Certificates.{named}
+use Rattle.interface.specs.Plants.{named}
 use Rattle.planner.specs.Sweeps.{LeastAhead}
 use Rattle.planner.proofs.sweep.choose.Goals as goal
 

@@ -1,6 +1,6 @@
 use Rattle.std.proofs.Common.{ℕ, ◌<◌, map}
 use Rattle.interface.specs.Rows.{Row}
-use Rattle.certificate.specs.Certificates.{named}
+use Rattle.interface.specs.Plants.{named}
 use Rattle.planner.specs.Sweeps.{LeastAhead}
 use Rattle.planner.proofs.sweep.choose.Given as goal
 

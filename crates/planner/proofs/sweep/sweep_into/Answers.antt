@@ -1,7 +1,7 @@
 use Rattle.std.proofs.Common.{◌≡◌, ◌<◌, ◌≤◌, ◌≢◌, map, length, set, refl, sym, ◌∙◌, subst, arith, below_more}
 use Rattle.std.proofs.lemmas.List.{length-map}
 use Rattle.interface.specs.Rows.{reach}
-use Rattle.lookahead.specs.Gains.{most_value}
+use Rattle.interface.specs.Limits.{most_value}
 use Rattle.lookahead.proofs.Bounds.{fits_map}
 use Rattle.certificate.proofs.Soundness.{near_from_each}
 use Rattle.planner.specs.Sweeps.{Fresh, NewValue}
