@@ -1,0 +1,5 @@
+pub mod Books
+pub mod Calls
+pub mod Log
+pub mod LookingBack
+pub mod Pasts

@@ -1,0 +1,119 @@
+-- What one finds who looks back on the past of a book, said without the log's steps.
+use Rattle.std.specs.Prelude.{◌≡◌, ◌≢◌, ℕ, ◌+◌, ◌<◌, ◌≤◌, ◌↔◌, true, Bool, false, List, [], ◌∷◌, length, Option, Some, None, ⊤, filter, count_by, slice_get}
+use Rattle.interface.specs.declared.plant.Outcome.{Outcome}
+use Rattle.interface.specs.Limits.{most_windows}
+use Rattle.interface.specs.Plants.{Model, outcomes_of}
+use Rattle.bookkeeping.specs.Books.{Account, Order, Airing, Book, opened, issued, on_air, account_of}
+use Rattle.bookkeeping.specs.Log.{Note, Call, issue, carry_out, report, Reply, goes_on, refused, Agrees}
+use Rattle.bookkeeping.specs.Pasts.{Event, Past, log_of, EachAnswered}
+
+-- Whether a call was accepted, and of which kind it was.
+abbrev pub is_accepted : Event → Bool
+is_accepted e = accepted e.reply
+  where
+    accepted : Reply → Bool
+    accepted (goes_on s) = true
+    accepted (refused n p) = false
+
+abbrev pub is_order : Event → Bool
+is_order e = order e.call e.reply
+  where
+    order : Call → Reply → Bool
+    order (issue m ps) (goes_on s) = true
+    order c r = false
+
+abbrev pub is_carry_out : Event → Bool
+is_carry_out e = carried e.call
+  where
+    carried : Call → Bool
+    carried carry_out = true
+    carried c = false
+
+abbrev pub is_report : Event → Bool
+is_report e = reported e.call e.reply
+  where
+    reported : Call → Reply → Bool
+    reported (report m k) (goes_on s) = true
+    reported c r = false
+
+-- The windows of a past: its carry-outs.
+abbrev pub windows_of : List Event → ℕ
+windows_of es = count_by is_carry_out es
+
+-- One more order than carry-outs while an order is out, one more carry-out than reports while a window is on air, else as many.
+abbrev pub TakesTurns : List Event → Book → Type 0
+TakesTurns es (opened a) = (count_by is_order es ≡ windows_of es) × (windows_of es ≡ count_by is_report es)
+TakesTurns es (issued o) = (count_by is_order es ≡ windows_of es + 1) × (windows_of es ≡ count_by is_report es)
+TakesTurns es (on_air w) = (count_by is_order es ≡ windows_of es) × (windows_of es ≡ count_by is_report es + 1)
+
+-- A window's portfolio is feasible in its state beside its plant.
+abbrev pub IsFeasible : Note → Type 0
+IsFeasible w = w.plant.feasible w.state w.portfolio ≡ true
+
+-- A window ended in an outcome, of some plant that allows it, that leads to this state.
+pub record LedTo (w : Note) (s : ℕ) : Type 0 where
+  pub plant : Model
+  pub number : ℕ
+  pub outcome : Outcome
+  pub there : slice_get (outcomes_of plant w.state w.portfolio) number ≡ Some outcome
+  pub next : outcome.next ≡ s
+
+-- A trail of windows, the newest first, from the state in which a book was made to the state in which it stands: each feasible,
+-- and each in the state to which an outcome of the one before led.
+abbrev pub Trail : ℕ → List Note → ℕ → Type 0
+Trail first [] s = s ≡ first
+Trail first (w ∷ ws) s = IsFeasible w × LedTo w s × Trail first ws w.state
+
+-- The windows account for a book: they are a trail to where it stands; of a window on air it is not yet told where it led.
+abbrev pub AccountFor : ℕ → List Note → Book → Type 0
+AccountFor first ws (opened a) = Trail first ws a.state
+AccountFor first ws (issued o) = Trail first ws o.account.state
+AccountFor first [] (on_air w) = ⊥
+AccountFor first (n ∷ ws) (on_air w) = IsFeasible n × (n.state ≡ w.account.state) × (n.portfolio ≡ w.portfolio) × Trail first ws n.state
+
+-- An order is refused for want of a window exactly when so many windows as a book takes lie before it.
+abbrev pub FullExactly : List Event → Type 0
+FullExactly [] = ⊤
+FullExactly (e ∷ es) = (e.reply ≡ refused 24 0 → most_windows ≤ windows_of es) × (is_order e ≡ true → windows_of es < most_windows) × FullExactly es
+
+-- Every call of a past goes beside this plant.
+abbrev pub IsBeside : Model → Call → Type 0
+IsBeside m (issue p ps) = p ≡ m
+IsBeside m carry_out = ⊤
+IsBeside m (report p k) = p ≡ m
+
+abbrev pub AllBeside : Model → List Event → Type 0
+AllBeside m [] = ⊤
+AllBeside m (e ∷ es) = IsBeside m e.call × AllBeside m es
+
+abbrev pub EachOf : Model → List Note → Type 0
+EachOf m [] = ⊤
+EachOf m (w ∷ ws) = (w.plant ≡ m) × EachOf m ws
+
+abbrev pub NoneUnknown : List Event → Type 0
+NoneUnknown [] = ⊤
+NoneUnknown (e ∷ es) = ((p : ℕ) → e.reply ≢ refused 21 p) × NoneUnknown es
+
+-- What holds of every past of a book.
+pub record Kept (first : ℕ) (es : List Event) (b : Book) : Type 0 where
+  -- each reply is the log's, and the book shows what the log says
+  pub answered : EachAnswered first es
+  pub agrees : Agrees (log_of first es) b
+  -- nothing infeasible was carried out, and the windows lead from the first state to where the book stands
+  pub accounted : AccountFor first (log_of first es).notes b
+  pub windows : (account_of b).windows ≡ windows_of es
+  pub turns : TakesTurns es b
+  pub full : FullExactly es
+  -- a refused call could be left out, and nothing after it would differ
+  pub without_refused : Past first (filter is_accepted es) b
+  pub same_log : log_of first (filter is_accepted es) ≡ log_of first es
+  -- beside one plant no call is told that the plant does not know its state, and each window is one of that plant
+  pub known : (m : Model) → first < m.states → AllBeside m es → NoneUnknown es × EachOf m (log_of first es).notes
+
+-- A past goes on to a book, and all that is kept of it holds.
+abbrev pub GoesOn : ℕ → List Event → Book → Type 0
+GoesOn first es b = Past first es b × Kept first es b
+
+-- Some past accounts for a book.
+abbrev pub IsAccountedFor : Book → Type 0
+IsAccountedFor b = ∥ (first : ℕ) × (es : List Event) × GoesOn first es b ∥₁
