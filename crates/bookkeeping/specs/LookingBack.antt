@@ -116,4 +116,4 @@ GoesOn first es b = Past first es b × Kept first es b
 
 -- Some past accounts for a book.
 abbrev pub IsAccountedFor : Book → Type 0
-IsAccountedFor b = ∥ (first : ℕ) × (es : List Event) × GoesOn first es b ∥₁
+IsAccountedFor b = ∥ ((first : ℕ) × (es : List Event) × GoesOn first es b) ∥₁
