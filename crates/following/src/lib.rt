@@ -1,0 +1,2 @@
+//! Books that follow an accepted certificate, and what that promises of their cost.
+#![tactic(auto)]
