@@ -1,0 +1,5 @@
+//! The service of a planned chain: its plan, checked, and a book that follows it as an operator asks.
+#![tactic(auto)]
+
+pub mod operator;
+pub mod serve;

@@ -1,0 +1,1 @@
+// serve: plans, has the plan checked, and follows it with a book as an operator asks
