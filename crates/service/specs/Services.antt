@@ -1,5 +1,5 @@
 -- What an operator asks of a book that follows one policy beside one plant, and is told.
-use Rattle.std.specs.Prelude.{◌≡◌, ℕ, ◌≤◌, ◌<◌, List, [], ◌∷◌, ◌++◌, map, length, Option, Some, None, option_map, All, ⊤}
+use Rattle.std.specs.Prelude.{◌≡◌, ℕ, Bool, true, false, ◌≤◌, ◌<◌, List, [], ◌∷◌, ◌++◌, map, length, Option, Some, None, option_map, All, ⊤}
 use Rattle.interface.specs.Plants.{Model}
 use Rattle.bookkeeping.specs.declared.stage.Stage.TheVariants.{Open}
 use Rattle.bookkeeping.specs.Books.{Account, Book, account_of, held_by}
@@ -26,6 +26,16 @@ shown b = record { account = account_of b; held = held_by b }
 pub record Told : Type 0 where
   pub reply : Reply
   pub shown : Option Shown
+
+-- Something is asked if a test says so, and nothing otherwise.
+abbrev pub AsksIf : Ask → Bool → List Ask → List Ask → Type 0
+AsksIf a true old new = new ≡ a ∷ old
+AsksIf a false old new = new ≡ old
+
+-- Something is asked of a number, if there is one.
+abbrev pub AsksFor : (ℕ → Ask) → Option ℕ → List Ask → List Ask → Type 0
+AsksFor ask None old new = new ≡ old
+AsksFor ask (Some n) old new = new ≡ ask n ∷ old
 
 -- What was asked by a call.
 abbrev pub ask_of : Call → Ask
