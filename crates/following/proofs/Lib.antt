@@ -1,2 +1,3 @@
 mod Groups
 mod Weighing
+mod Halves

@@ -112,7 +112,7 @@ module _ {A : Type 0} (S : Sums A) (O : Ordered S) where
       (weigh_most o.weight (f k o) (g k o) h.0) (over_most f g (suc k) os h.1)
 
 -- numbers are such amounts
-pub numbers : Sums ℕ
+abbrev pub numbers : Sums ℕ
 numbers = record {
   none = 0;
   plus = λ a b. a + b;
@@ -125,6 +125,5 @@ numbers = record {
 }
 
 pub weight_total : (w : List ℕ → ℕ) (kss : List (List ℕ)) → total numbers w (λ ks. 1) kss ≡ sum_by w kss
-unfolding numbers
 weight_total w [] = refl
 weight_total w (ks ∷ kss) = let ih = weight_total w kss in omega (arith, sum_by-cons w ks kss)
