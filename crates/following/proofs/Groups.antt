@@ -101,3 +101,14 @@ module _ {A : Type 0} (S : Sums A) (O : Ordered S) where
       without p q (plus c' (plus nl kb))
       (transitive _ (plus (plus d nh) nl) _ (ap (λ z. at_most z (plus (plus d nh) nl)) start ∙ first)
       (ap (λ z. at_most z (plus q (plus c' (plus nl kb)))) middle ∙ ap (at_most (plus (plus d nl) nh)) (sym end) ∙ second))
+
+-- the same order read backwards
+abbrev pub backwards : {A : Type 0} {S : Sums A} → Ordered S → Ordered S
+backwards O = record {
+  at_most = λ a b. O.at_most b a;
+  minus = O.minus;
+  reflexive = O.reflexive;
+  transitive = λ a b c g h. O.transitive c b a h g;
+  shift = λ a b c. O.shift b a c;
+  back = O.back;
+}

@@ -1,3 +1,4 @@
 mod Groups
 mod Weighing
 mod Halves
+mod Sized
