@@ -102,6 +102,41 @@ module _ {A : Type 0} (S : Sums A) (O : Ordered S) where
       (transitive _ (plus (plus d nh) nl) _ (ap (λ z. at_most z (plus (plus d nh) nl)) start ∙ first)
       (ap (λ z. at_most z (plus q (plus c' (plus nl kb)))) middle ∙ ap (at_most (plus (plus d nl) nh)) (sym end) ∙ second))
 
+  -- a gain of at least g, and one of at most g
+  pub gained_least : (g l v : A) → at_most g (minus l v) ≡ true → at_most (plus v g) l ≡ true
+  gained_least g l v h =
+      ap (λ z. at_most z l) (comm v g) ∙ ap (at_most (plus g v)) (sym (back l v)) ∙ plus_left g (minus l v) v h
+
+  pub gained_most : (g l v : A) → at_most (minus l v) g ≡ true → at_most l (plus v g) ≡ true
+  gained_most g l v h =
+      ap (λ z. at_most z (plus v g)) (sym (back l v)) ∙ ap (at_most (plus (minus l v) v)) (comm v g) ∙ plus_left (minus l v) g v h
+
+  back_times : (k : ℕ) (a b : A) → plus (times k (minus a b)) (times k b) ≡ times k a
+  back_times k a b = sym (times_plus S k (minus a b) b) ∙ ap (times k) (back a b)
+
+  back_twice : (k n : ℕ) (a b : A) → plus (times k (times n (minus a b))) (times k (times n b)) ≡ times k (times n a)
+  back_twice k n a b = sym (times_plus S k (times n (minus a b)) (times n b)) ∙ ap (times k) (back_times n a b)
+
+  -- both halves together
+  pub from_halves : (w n k : ℕ) (c c' v low high top bottom : A)
+      → at_most (times w (plus c (times k bottom))) (times k (plus (times w v) (times n high))) ≡ true
+      → at_most (times k (plus (times w v) (times n low))) (times w (plus c' (times k top))) ≡ true
+      → at_most (times w (minus c c')) (times k (plus (times n (minus high low)) (times w (minus top bottom)))) ≡ true
+  from_halves w n k c c' v low high top bottom one other =
+      let part = λ (a b : A). times_plus S k (times w a) (times n b) in
+      let mine = λ (a b : A). times_plus S w a (times k b) in
+      let gains = times n (minus high low) in
+      let edges = times w (minus top bottom) in
+      let made : plus (times k (plus gains edges)) (plus (times k (times n low)) (times w (times k bottom))) ≡ plus (times k (times n high)) (times w (times k top))
+      = ap (λ z. plus z (plus (times k (times n low)) (times w (times k bottom)))) (times_plus S k gains edges)
+      ∙ swap_middle S (times k gains) (times k edges) (times k (times n low)) (times w (times k bottom))
+      ∙ ap (λ z. plus z (plus (times k edges) (times w (times k bottom)))) (back_twice k n high low)
+      ∙ ap (plus (times k (times n high))) (ap (plus (times k edges)) (times_swap S w k bottom) ∙ back_twice k w top bottom ∙ times_swap S k w top) in
+      within (times w c) (times w c') (times k (times w v)) (times k (plus gains edges)) (times k (times n low)) (times k (times n high)) (times w (times k bottom)) (times w (times k top))
+      (ap (λ z. at_most z (plus (times k (times w v)) (times k (times n high)))) (sym (mine c bottom)) ∙ ap (at_most (times w (plus c (times k bottom)))) (sym (part v high)) ∙ one)
+      (ap (λ z. at_most z (plus (times w c') (times w (times k top)))) (sym (part v low)) ∙ ap (at_most (times k (plus (times w v) (times n low)))) (sym (mine c' top)) ∙ other)
+      made (times w (minus c c')) (back_times w c c')
+
 -- the same order read backwards
 abbrev pub backwards : {A : Type 0} {S : Sums A} → Ordered S → Ordered S
 backwards O = record {

@@ -18,6 +18,10 @@ inside_at n (p ∷ os) (suc k) o h there = inside_at n os k o h.1 there
 pub outcomes_there : (m : Model) (s x : ℕ) → m.feasible s x ≡ true → outcomes_of m s x ≡ m.outcomes s x
 outcomes_there m s x f = ap (λ z. cond z (m.outcomes s x) []) f
 
+-- What n windows cost, all lists weighed.
+abbrev pub all_lists : {A : Type 0} → Sums A → Model → Rule → (Met → ℕ → List ℕ → A) → ℕ → Met → ℕ → A
+all_lists S m r spent n met s = total S (weight m r met s) (spent met s) (lists m r n met s)
+
 module _ (m : Model) (lawful : Lawful m) (r : Rule) where
   -- how a rule plays on behind an outcome that can happen
   plays_on : (n : ℕ) (met : Met) (s : ℕ) → Plays m r (suc n) met s → (k : ℕ) (o : Outcome) → slice_get (outcomes_of m s (r met s)) k ≡ Some o → 1 ≤ o.weight
@@ -66,9 +70,8 @@ module _ (m : Model) (lawful : Lawful m) (r : Rule) where
     open S use {none, plus, times, assoc, comm, plus_none, times_zero, times_suc}
     open O use {at_most, transitive}
 
-    -- what n windows cost, all lists weighed
-    abbrev pub all : ℕ → Met → ℕ → A
-    all n met s = total S (weight m r met s) (spent met s) (lists m r n met s)
+    abbrev all : ℕ → Met → ℕ → A
+    all n met s = all_lists S m r spent n met s
 
     -- the first window's cost and what the rest costs behind each outcome
     abbrev behind : ℕ → Met → ℕ → ℕ → Outcome → A

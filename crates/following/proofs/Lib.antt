@@ -2,3 +2,4 @@ mod Groups
 mod Weighing
 mod Halves
 mod Sized
+mod Bounding
