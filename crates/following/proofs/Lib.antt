@@ -3,3 +3,4 @@ mod Weighing
 mod Halves
 mod Sized
 mod Bounding
+mod Enumerating
