@@ -4,3 +4,4 @@ mod Halves
 mod Sized
 mod Bounding
 mod Enumerating
+mod Charging
