@@ -5,3 +5,4 @@ mod Sized
 mod Bounding
 mod Enumerating
 mod Charging
+mod Promising
