@@ -1,3 +1,4 @@
+pub mod Booking
 pub mod Keeping
 pub mod Mirrors
 pub mod Replies
