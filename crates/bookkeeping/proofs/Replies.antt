@@ -1,5 +1,5 @@
 -- What a log of so many notes answers, and that a call is refused as one number and at one place, and not where it may be done.
-use Rattle.std.proofs.Common.{◌≡◌, ◌≢◌, ℕ, ◌<◌, ◌≤◌, true, false, Bool, cond, List, [], length, Some, None, sym, refl, ap, ◌∙◌, arith, ◌==◌, nat_lt, nat_le, if◌then◌else◌}
+use Rattle.std.proofs.Common.{◌≡◌, ◌≢◌, ℕ, ◌<◌, ◌≤◌, ◌↔◌, true, false, Bool, cond, List, [], length, Some, None, sym, refl, ap, ◌∙◌, subst, arith, ◌==◌, nat_lt, nat_le, if◌then◌else◌}
 use Rattle.std.proofs.lemmas.Bool.Decides.{nat_tests}
 use Rattle.std.specs.List.{slice_get}
 use Rattle.std.proofs.lemmas.Option.{slice_get_within}
@@ -7,7 +7,7 @@ use Rattle.interface.specs.Limits.{most_windows}
 use Rattle.interface.specs.Plants.{Model, named, outcomes_of}
 use Rattle.bookkeeping.specs.declared.stage.Stage.TheVariants.{Open, Issued}
 use Rattle.bookkeeping.specs.Books.{Account, Airing}
-use Rattle.bookkeeping.specs.Calls.{MayIssue, IssueRefused, full, no_state, wrong_length, infeasible, MayReport, Reported, ReportRefused, not_allowed, no_outcome}
+use Rattle.bookkeeping.specs.Calls.{MakeRefused, MayIssue, IssueRefused, full, no_state, wrong_length, infeasible, MayReport, Reported, ReportRefused, not_allowed, no_outcome}
 use Rattle.bookkeeping.specs.Log.{Reply, goes_on, refused, report_reply}
 
 -- what an issue is told in a state, with so many windows noted
@@ -68,3 +68,18 @@ reported_may m w k a told = by_test (m.feasible w.account.state w.portfolio) ref
     by_test false not_so =
         let none : slice_get (outcomes_of m w.account.state w.portfolio) k ≡ None = ap (λ b. slice_get (cond b (m.outcomes w.account.state w.portfolio) []) k) not_so in
         let z : ◌≡◌ {A = ℕ} 0 1 = cc in absurd (omega arith)
+
+-- a refusal as exactly its number and its place
+pub make_exactly : (m : Model) (s : ℕ) → m.states ≤ s → (n p : ℕ) → ((21 ≡ n) × (s ≡ p)) ↔ MakeRefused m s n p
+make_exactly m s out n p = ((λ e. subst (λ i. MakeRefused m s i p) e.0 (subst (λ j. MakeRefused m s 21 j) e.1 (no_state out))), (λ r. once n p r))
+  where
+    once : (n p : ℕ) → MakeRefused m s n p → (21 ≡ n) × (s ≡ p)
+    once n p (no_state other) = (refl, refl)
+
+pub issue_exactly : (m : Model) (a : Account) (ps : List ℕ) (i j : ℕ) → IssueRefused m a ps i j → (n p : ℕ) → ((i ≡ n) × (j ≡ p)) ↔ IssueRefused m a ps n p
+issue_exactly m a ps i j why n p =
+    ((λ e. subst (λ k. IssueRefused m a ps k p) e.0 (subst (λ k. IssueRefused m a ps i k) e.1 why)), (λ r. issue_once m a ps i j n p why r))
+
+pub report_exactly : (m : Model) (w : Airing) (k i j : ℕ) → ReportRefused m w k i j → (n p : ℕ) → ((i ≡ n) × (j ≡ p)) ↔ ReportRefused m w k n p
+report_exactly m w k i j why n p =
+    ((λ e. subst (λ z. ReportRefused m w k z p) e.0 (subst (λ z. ReportRefused m w k i z) e.1 why)), (λ r. report_once m w k i j n p why r))
