@@ -3,3 +3,5 @@ pub mod Calls
 pub mod Log
 pub mod LookingBack
 pub mod Pasts
+pub mod Refusals
+pub mod Results

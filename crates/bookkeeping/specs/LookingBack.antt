@@ -2,7 +2,7 @@
 use Rattle.std.specs.Prelude.{◌≡◌, ◌≢◌, ℕ, ◌+◌, ◌<◌, ◌≤◌, ◌↔◌, true, Bool, false, List, [], ◌∷◌, length, Option, Some, None, ⊤, filter, count_by, slice_get}
 use Rattle.interface.specs.declared.plant.Outcome.{Outcome}
 use Rattle.interface.specs.Limits.{most_windows}
-use Rattle.interface.specs.Plants.{Model, outcomes_of}
+use Rattle.interface.specs.Plants.{Model, Lawful, outcomes_of}
 use Rattle.bookkeeping.specs.Books.{Account, Order, Airing, Book, opened, issued, on_air, account_of}
 use Rattle.bookkeeping.specs.Log.{Note, Call, issue, carry_out, report, Reply, goes_on, refused, Agrees}
 use Rattle.bookkeeping.specs.Pasts.{Event, Past, log_of, EachAnswered}
@@ -14,6 +14,13 @@ is_accepted e = accepted e.reply
     accepted : Reply → Bool
     accepted (goes_on s) = true
     accepted (refused n p) = false
+
+abbrev pub is_issue : Event → Bool
+is_issue e = asks e.call
+  where
+    asks : Call → Bool
+    asks (issue m ps) = true
+    asks c = false
 
 abbrev pub is_order : Event → Bool
 is_order e = order e.call e.reply
@@ -71,10 +78,11 @@ AccountFor first ws (issued o) = Trail first ws o.account.state
 AccountFor first [] (on_air w) = ⊥
 AccountFor first (n ∷ ws) (on_air w) = IsFeasible n × (n.state ≡ w.account.state) × (n.portfolio ≡ w.portfolio) × Trail first ws n.state
 
--- An order is refused for want of a window exactly when so many windows as a book takes lie before it.
+-- An issue is refused for want of a window exactly when so many windows as a book takes lie before it.
 abbrev pub FullExactly : List Event → Type 0
 FullExactly [] = ⊤
-FullExactly (e ∷ es) = (e.reply ≡ refused 24 0 → most_windows ≤ windows_of es) × (is_order e ≡ true → windows_of es < most_windows) × FullExactly es
+FullExactly (e ∷ es) =
+    (is_issue e ≡ true → (e.reply ≡ refused 24 0) ↔ (most_windows ≤ windows_of es)) × FullExactly es
 
 -- Every call of a past goes beside this plant.
 abbrev pub IsBeside : Model → Call → Type 0
@@ -116,4 +124,13 @@ GoesOn first es b = Past first es b × Kept first es b
 
 -- Some past accounts for a book.
 abbrev pub IsAccountedFor : Book → Type 0
-IsAccountedFor b = ∥ (first : ℕ) × (es : List Event) × GoesOn first es b ∥₁
+IsAccountedFor b = ∥ ((first : ℕ) × (es : List Event) × GoesOn first es b) ∥₁
+
+-- Whatever past led to a book goes on, by an event, to another.
+abbrev pub Continues : Book → Event → Book → Type 0
+Continues b e c = (first : ℕ) (es : List Event) → Past first es b → GoesOn first (e ∷ es) c
+
+-- Some plant allowed an order in the state in which its book stands, at the bill that it has.
+abbrev pub WasAllowed : Order → Type 0
+WasAllowed o =
+    ∥ ((m : Model) × Lawful m × (m.feasible o.account.state o.portfolio ≡ true) × (m.bill o.account.state o.portfolio ≡ o.bill)) ∥₁
