@@ -1,15 +1,16 @@
 -- What each call needs to be known of the book that it makes.
-use Rattle.std.proofs.Common.{◌≡◌, ℕ, ◌+◌, ◌<◌, ◌≤◌, ◌↔◌, true, false, Bool, cond, List, [], ◌∷◌, length, Some, None, sym, refl, ap, ◌∙◌, subst, arith}
+use Rattle.std.proofs.Common.{◌≡◌, ℕ, ◌+◌, ◌<◌, ◌≤◌, ◌↔◌, true, false, Bool, cond, List, [], ◌∷◌, length, get_or, Some, None, ◌⊎◌, inl, inr, sym, refl, ap, ◌∙◌, subst, arith}
 use Rattle.std.proofs.Math.Logic.{∥∥₁_map, ∥∥₁_elim}
 use Rattle.std.specs.List.{slice_get}
 use Rattle.std.specs.Coded.{le_prop}
+use Rattle.std.proofs.lemmas.Option.{slice_get_cases}
 use Rattle.interface.specs.declared.plant.Bill.{Bill}
 use Rattle.interface.specs.declared.plant.Outcome.{Outcome}
 use Rattle.interface.specs.Limits.{most_windows, most_seconds, most_cents}
 use Rattle.interface.specs.Plants.{Model, Lawful, LawfulBill, named, bill_of, outcomes_of}
 use Rattle.bookkeeping.specs.declared.stage.Stage.TheVariants.{Open, Issued, OnAir}
-use Rattle.bookkeeping.specs.Books.{Account, Order, Airing, Book, opened, issued, on_air, fresh, aired, Bounded}
-use Rattle.bookkeeping.specs.Calls.{MayIssue, EntryOf, ordered, IssueRefused, infeasible, MayReport, Reported, ReportRefused}
+use Rattle.bookkeeping.specs.Books.{Account, Order, Airing, Book, opened, issued, on_air, fresh, aired, moved, Bounded}
+use Rattle.bookkeeping.specs.Calls.{MayIssue, EntryOf, ordered, IssueRefused, infeasible, MayReport, Reported, ReportRefused, not_allowed, no_outcome}
 use Rattle.bookkeeping.specs.Log.{issue, carry_out, report, goes_on, refused}
 use Rattle.bookkeeping.specs.LookingBack.{Continues, GoesOn, IsAccountedFor, WasAllowed}
 use Rattle.bookkeeping.specs.Pasts.{Event, Past, HasPast, Lasting, made, was_issued, issue_was_refused, was_carried_out, was_reported, report_was_refused}
@@ -121,3 +122,19 @@ report_goes_on m w k a lawful told first es past = goes_on_so first _ _ (was_rep
 pub no_report_goes_on : (m : Model) (w : Airing) (k n p : ℕ) → Lawful m → ReportRefused m w k n p
     → Continues (on_air w) (record { call = report m k; reply = refused n p }) (on_air w)
 no_report_goes_on m w k n p lawful why first es past = goes_on_so first _ _ (report_was_refused m k n p past lawful why)
+
+-- an outcome that is there was reported, and may be
+pub outcome_told : (m : Model) (w : Airing) (k : ℕ) (o : Outcome) → slice_get (outcomes_of m w.account.state w.portfolio) k ≡ Some o
+    → Reported m w k (moved w.account o.next)
+outcome_told m w k o there = record { outcome = o; there = there; moves = refl }
+
+-- an outcome that is absent
+pub outcome_absent : (m : Model) (w : Airing) (k : ℕ) → m.feasible w.account.state w.portfolio ≡ true
+    → slice_get (outcomes_of m w.account.state w.portfolio) k ≡ None → ReportRefused m w k 23 k
+outcome_absent m w k may none = no_outcome may (by_cases (slice_get_cases (outcomes_of m w.account.state w.portfolio) k).1)
+  where
+    by_cases : ((x : Outcome) × (k < length (outcomes_of m w.account.state w.portfolio)) × (slice_get (outcomes_of m w.account.state w.portfolio) k ≡ Some x) × (get_or (outcomes_of m w.account.state w.portfolio) k x ≡ x))
+        ⊎ ((length (outcomes_of m w.account.state w.portfolio) ≤ k) × (slice_get (outcomes_of m w.account.state w.portfolio) k ≡ None))
+        → length (outcomes_of m w.account.state w.portfolio) ≤ k
+    by_cases (inl here) = let there = here.2 in let z : ◌≡◌ {A = ℕ} 0 1 = cc in absurd (omega arith)
+    by_cases (inr past) = past.0
