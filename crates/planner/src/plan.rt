@@ -1,6 +1,7 @@
 // The planner.
 ghost use Rattle.std.specs.Prelude.{◌≡◌, ◌↔◌, ℕ, map, IfOk, IfErr};
 ghost use Rattle.certificate.specs.Certificates.{Sound};
+ghost use Rattle.certificate.specs.ExactClaims.{Tightest};
 ghost use Rattle.planner.specs.Answers.{Answer, Only};
 ghost use Rattle.planner.specs.RefusedAs.{RefusedAs, IsRefused};
 ghost use Rattle.planner.specs.Refusals.{number_of, place_of};
@@ -45,6 +46,10 @@ pub fn plan<P: Plant, T: Tariff>(
     // the plan is a sound certificate
     ensures sound { IfOk result (λ c.
         Sound (P.model plant.now) (T.scale tariff.now) (map T.Tariff.row values.new) policy.new
+        (T.Tariff.row c.low) (T.Tariff.row c.high)) }
+    // and no tighter claims of its values and policy are
+    ensures tightest { IfOk result (λ c.
+        Tightest (P.model plant.now) (T.scale tariff.now) (map T.Tariff.row values.new) policy.new
         (T.Tariff.row c.low) (T.Tariff.row c.high)) }
 {
     if sweeps > MOST_SWEEPS {

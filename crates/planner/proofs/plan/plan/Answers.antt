@@ -5,6 +5,7 @@ use Rattle.interface.specs.declared.claims.Claims.{Claims}
 use Rattle.lookahead.specs.Gains.{Within, look_ahead}
 use Rattle.certificate.specs.Certificates.{Sound}
 use Rattle.certificate.specs.Claims.{Recipe}
+use Rattle.certificate.specs.ExactClaims.{Tightest}
 use Rattle.certificate.specs.Recipes.{Fitting}
 use Rattle.certificate.proofs.Claiming.{feasible_of}
 use Rattle.planner.specs.Answers.{Tables, Answer}
@@ -70,6 +71,7 @@ returns-in_err-swept g c =
       refused = reason_of row m t c.args.sweeps b b' r answer;
       refused_exactly = refused_from row m t c.args.sweeps b b' r answer;
       sound = search rules;
+      tightest = search rules;
     }
 
 pub invariant_of-valued : goal.invariant_of-valued
@@ -119,4 +121,5 @@ returns g c =
       refused = tt;
       refused_exactly = refused_from row m t c.args.sweeps b b' r answer;
       sound = subst (λ z. IfOk z (λ k. Sound m t vs b'.policy (row k.low) (row k.high))) c.unwrap.ensures c.recipe.ensures.sound;
+      tightest = subst (λ z. IfOk z (λ k. Tightest m t vs b'.policy (row k.low) (row k.high))) c.unwrap.ensures c.recipe.ensures.tightest;
     }
