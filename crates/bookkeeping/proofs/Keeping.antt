@@ -17,7 +17,7 @@ use Rattle.bookkeeping.proofs.Replies.{reported_may}
 use Rattle.bookkeeping.proofs.Mirrors.{Mirrors, Free, Out, Flying, Stepped, issue_done, issue_not_done, carried_out, reported, not_reported}
 
 -- the log goes with the book
-mirrored : (first : ℕ) (es : List Event) (b : Book) → Past first es b → EachAnswered first es × Mirrors first (log_of first es) b
+pub mirrored : (first : ℕ) (es : List Event) (b : Book) → Past first es b → EachAnswered first es × Mirrors first (log_of first es) b
 mirrored first es b (made m lawful inside) = (tt, record { notes = []; is = refl; sums = record { windows = refl; seconds = refl; cents = refl }; trail = refl })
 mirrored first es b (was_issued {es = earlier} {a = a} m ps before lawful may) =
     let so_far = mirrored first earlier (opened a) before in

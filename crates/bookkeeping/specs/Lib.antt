@@ -5,4 +5,5 @@ pub mod LookingBack
 pub mod Pasts
 pub mod Refusals
 pub mod Results
+pub mod Runs
 pub mod Standings
