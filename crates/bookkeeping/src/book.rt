@@ -49,9 +49,10 @@ impl Open {
         })
     }
 
-    /// The state in which the book stands.
+    /// The state in which the book stands. Whatever book it is, some past accounts for it.
     pub fn state(&self) -> usize
-        ensures { result ≡ self.now.state }
+        ensures state { result ≡ self.now.state }
+        ensures accounted { IsAccountedFor (opened self.now) }
     {
         self.state
     }
@@ -169,9 +170,10 @@ impl Issued {
         }
     }
 
-    /// The state in which the book stands.
+    /// The state in which the book stands. Whatever book it is, some past accounts for it.
     pub fn state(&self) -> usize
-        ensures { result ≡ self.now.account.state }
+        ensures state { result ≡ self.now.account.state }
+        ensures accounted { IsAccountedFor (issued self.now) }
     {
         self.state
     }
@@ -269,9 +271,10 @@ impl OnAir {
         }
     }
 
-    /// The state in which the window was carried out.
+    /// The state in which the window was carried out. Whatever book it is, some past accounts for it.
     pub fn state(&self) -> usize
-        ensures { result ≡ self.now.account.state }
+        ensures state { result ≡ self.now.account.state }
+        ensures accounted { IsAccountedFor (on_air self.now) }
     {
         self.state
     }
