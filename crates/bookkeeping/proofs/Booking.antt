@@ -1,19 +1,19 @@
 -- What each call needs to be known of the book that it makes.
-use Rattle.std.proofs.Common.{◌≡◌, ℕ, ◌+◌, ◌<◌, ◌≤◌, ◌↔◌, true, false, Bool, cond, List, [], ◌∷◌, length, get_or, Some, None, ◌⊎◌, inl, inr, sym, refl, ap, ◌∙◌, subst, arith}
+use Rattle.std.proofs.Common.{◌≡◌, ℕ, ◌+◌, ◌<◌, ◌≤◌, true, false, Bool, cond, List, [], ◌∷◌, length, get_or, Some, None, ◌⊎◌, inl, inr, sym, refl, ap, ◌∙◌, subst, arith}
 use Rattle.std.proofs.Math.Logic.{∥∥₁_map, ∥∥₁_elim}
 use Rattle.std.specs.List.{slice_get}
 use Rattle.std.specs.Coded.{le_prop}
 use Rattle.std.proofs.lemmas.Option.{slice_get_cases}
 use Rattle.interface.specs.declared.plant.Bill.{Bill}
 use Rattle.interface.specs.declared.plant.Outcome.{Outcome}
-use Rattle.interface.specs.Limits.{most_windows, most_seconds, most_cents}
+use Rattle.interface.specs.Limits.{most_windows}
 use Rattle.interface.specs.Plants.{Model, Lawful, LawfulBill, named, bill_of, outcomes_of}
 use Rattle.bookkeeping.specs.declared.stage.Stage.TheVariants.{Open, Issued, OnAir}
 use Rattle.bookkeeping.specs.Books.{Account, Order, Airing, Book, opened, issued, on_air, fresh, airing, aired, moved, Bounded}
-use Rattle.bookkeeping.specs.Calls.{MayIssue, EntryOf, ordered, IssueRefused, infeasible, MayReport, Reported, ReportRefused, not_allowed, no_outcome}
+use Rattle.bookkeeping.specs.Calls.{MayIssue, EntryOf, ordered, IssueRefused, infeasible, MayReport, Reported, ReportRefused, no_outcome}
 use Rattle.bookkeeping.specs.Log.{issue, carry_out, report, goes_on, refused}
 use Rattle.bookkeeping.specs.LookingBack.{Continues, GoesOn, IsAccountedFor, WasAllowed}
-use Rattle.bookkeeping.specs.Pasts.{Event, Past, HasPast, Lasting, made, was_issued, issue_was_refused, was_carried_out, was_reported, report_was_refused}
+use Rattle.bookkeeping.specs.Pasts.{Event, Past, Lasting, made, was_issued, issue_was_refused, was_carried_out, was_reported, report_was_refused}
 use Rattle.bookkeeping.proofs.Keeping.{kept}
 use Rattle.bookkeeping.proofs.Replies.{reported_may}
 
@@ -164,8 +164,8 @@ pub carry_out_book : (o v : Order) (t c : ℕ) → v ≡ o → t ≡ v.bill.seco
     → CarriedOut o (airing v.account.state (v.account.windows + 1) (v.account.seconds + t) (v.account.cents + c) v.portfolio)
 carry_out_book o v t c same seconds cents lasting =
     let value = ap (λ z. airing v.account.state (v.account.windows + 1) (v.account.seconds + z) (v.account.cents + c) v.portfolio) seconds
-      ∙ ap (λ z. airing v.account.state (v.account.windows + 1) (v.account.seconds + v.bill.seconds) (v.account.cents + z) v.portfolio) cents
-      ∙ ap aired same in
+    ∙ ap (λ z. airing v.account.state (v.account.windows + 1) (v.account.seconds + v.bill.seconds) (v.account.cents + z) v.portfolio) cents
+    ∙ ap aired same in
     subst (CarriedOut o) (sym value) (record { lasting = lasting_carry_out o (subst (λ z. Lasting (issued z)) same lasting); goes_on = carry_out_goes_on o })
 
 -- what is owed of an outcome that is reported

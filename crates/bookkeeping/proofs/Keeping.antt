@@ -1,20 +1,20 @@
 -- What is kept of every past, by induction on it.
-use Rattle.std.proofs.Common.{◌≡◌, ◌≢◌, ℕ, zero, suc, ◌+◌, ◌<◌, ◌≤◌, ◌↔◌, true, false, Bool, cond, List, [], ◌∷◌, length, Some, None, sym, refl, ap, ◌∙◌, subst, arith}
+use Rattle.std.proofs.Common.{◌≡◌, ℕ, zero, suc, ◌+◌, ◌<◌, ◌≤◌, ◌↔◌, true, cond, List, [], ◌∷◌, Some, sym, refl, ap, ◌∙◌, subst, arith}
 use Rattle.std.specs.List.{filter, count_by, slice_get}
 use Rattle.std.specs.Option.{IfSome}
 use Rattle.std.proofs.lemmas.List.Sums.{sum_by-cons}
 use Rattle.interface.specs.Limits.{most_windows}
 use Rattle.std.specs.Bool.{⊤}
-use Rattle.interface.specs.Plants.{Model, Lawful, Inside, named, outcomes_of}
+use Rattle.interface.specs.Plants.{Model, Lawful, Inside, named}
 use Rattle.interface.specs.declared.plant.Outcome.{Outcome}
 use Rattle.bookkeeping.specs.declared.stage.Stage.TheVariants.{Open, Issued, OnAir}
 use Rattle.bookkeeping.specs.Books.{Account, Order, Airing, Book, opened, issued, on_air, account_of, aired}
 use Rattle.bookkeeping.specs.Calls.{MayIssue, ordered, Reported, IssueRefused, full, no_state, wrong_length, infeasible, ReportRefused, not_allowed, no_outcome}
-use Rattle.bookkeeping.specs.Log.{Note, Log, start, Call, issue, carry_out, report, Reply, goes_on, refused, reply, after, after_reply, Agrees}
-use Rattle.bookkeeping.specs.LookingBack.{is_accepted, is_issue, is_order, is_carry_out, is_report, windows_of, TakesTurns, last_order, IsNamed, HoldsNamed, AccountFor, FullExactly, AllBeside, EachOf, NoneUnknown, Kept}
+use Rattle.bookkeeping.specs.Log.{Log, Call, issue, carry_out, report, Reply, goes_on, refused, reply, after, after_reply, Agrees}
+use Rattle.bookkeeping.specs.LookingBack.{is_accepted, is_order, is_carry_out, is_report, windows_of, TakesTurns, last_order, IsNamed, HoldsNamed, AccountFor, FullExactly, AllBeside, EachOf, NoneUnknown, Kept}
 use Rattle.bookkeeping.specs.Pasts.{Event, Past, made, was_issued, issue_was_refused, was_carried_out, was_reported, report_was_refused, log_of, EachAnswered}
 use Rattle.bookkeeping.proofs.Replies.{reported_may}
-use Rattle.bookkeeping.proofs.Mirrors.{Mirrors, Free, Out, Flying, Stepped, issue_done, issue_not_done, carried_out, reported, not_reported}
+use Rattle.bookkeeping.proofs.Mirrors.{Mirrors, Out, issue_done, issue_not_done, carried_out, reported, not_reported}
 
 -- the log goes with the book
 pub mirrored : (first : ℕ) (es : List Event) (b : Book) → Past first es b → EachAnswered first es × Mirrors first (log_of first es) b

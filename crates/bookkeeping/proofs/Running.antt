@@ -1,5 +1,5 @@
 -- A run of calls, one call more at a time.
-use Rattle.std.proofs.Common.{◌≡◌, ℕ, ◌+◌, ◌<◌, ◌≤◌, min, true, false, Bool, cond, List, [], ◌∷◌, ◌++◌, map, length, take, drop, get_or, set, Option, Some, None, sym, refl, ap, ◌∙◌, subst, ⊎_elim, append_assoc, add-one, length-append, arith}
+use Rattle.std.proofs.Common.{◌≡◌, ℕ, ◌+◌, ◌<◌, min, false, cond, List, [], ◌∷◌, ◌++◌, map, length, take, drop, get_or, set, Option, Some, None, sym, refl, ap, ◌∙◌, subst, ⊎_elim, append_assoc, add-one, length-append, arith}
 use Rattle.std.proofs.Math.Seq.{drop-cons, set-append_seam}
 use Rattle.std.proofs.lemmas.List.{map-append, take_more, take_all}
 use Rattle.std.proofs.lemmas.List.Sums.{sum_by_push}
@@ -132,7 +132,7 @@ through_more m first calls old new b d i none r so_far more room answered goes_o
       long = omega (arith, so_far.long, length-append so_far.told (r ∷ []));
       written = ap (λ z. set z i r) so_far.written ∙ written_more so_far.told old r i so_far.long room;
       replies = map-append (option_map reply_of) so_far.told (r ∷ []) ∙ ap (λ z. z ++ option_map reply_of r ∷ []) so_far.replies
-        ∙ ap (λ z. log_replies (start first) cs ++ z ∷ []) (sym told) ∙ sym (replies_more (start first) cs c) ∙ ap (λ z. log_replies (start first) z) (sym taken);
+          ∙ ap (λ z. log_replies (start first) cs ++ z ∷ []) (sym told) ∙ sym (replies_more (start first) cs c) ∙ ap (λ z. log_replies (start first) z) (sym taken);
       aired = sum_by_push (λ (x : Option Answer). cond (is_aired x) 1 0) so_far.told r ∙ ap {B = ℕ} (λ n. n + cond (is_aired r) 1 0) so_far.aired ∙ sym (aired_more b d c r answered);
       past = subst (λ z. Past first (events_after [] z (log_replies (start first) z)) d) (sym taken) (subst (λ z. Past first z d) (sym events) next.1);
     }

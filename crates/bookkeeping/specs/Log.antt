@@ -1,5 +1,5 @@
 -- The log of a book, which goes by its notes alone.
-use Rattle.std.specs.Prelude.{◌≡◌, ℕ, Bool, true, List, [], ◌∷◌, length, Option, Some, None, ◌==◌, nat_lt, nat_le, if◌then◌else◌, slice_get, sum_by, option_map}
+use Rattle.std.specs.Prelude.{◌≡◌, ℕ, List, [], ◌∷◌, length, Option, Some, None, ◌==◌, nat_lt, nat_le, if◌then◌else◌, slice_get, sum_by, option_map}
 use Rattle.interface.specs.Limits.{most_windows}
 use Rattle.interface.specs.Plants.{Model, named, outcomes_of}
 use Rattle.interface.specs.declared.plant.Outcome.{Outcome}
@@ -73,6 +73,7 @@ went_on l (report m k) = record { stage = Open; state = next_state m k l.state l
     next_of : ℕ → Option Outcome → ℕ
     next_of s None = s
     next_of s (Some o) = o.next
+
     next_state : Model → ℕ → ℕ → Option Note → ℕ
     next_state m k s None = s
     next_state m k s (Some held) = next_of s (slice_get (outcomes_of m s held.portfolio) k)

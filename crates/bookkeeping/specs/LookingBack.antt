@@ -1,9 +1,9 @@
 -- What one finds who looks back on the past of a book, said without the log's steps.
-use Rattle.std.specs.Prelude.{◌≡◌, ◌≢◌, ℕ, ◌+◌, ◌<◌, ◌≤◌, ◌↔◌, true, Bool, false, List, [], ◌∷◌, length, Option, Some, None, ⊤, filter, count_by, slice_get}
+use Rattle.std.specs.Prelude.{◌≡◌, ◌≢◌, ℕ, ◌+◌, ◌<◌, ◌≤◌, ◌↔◌, true, Bool, false, List, [], ◌∷◌, Option, Some, None, ⊤, filter, count_by, slice_get}
 use Rattle.interface.specs.declared.plant.Outcome.{Outcome}
 use Rattle.interface.specs.Limits.{most_windows}
 use Rattle.interface.specs.Plants.{Model, Lawful, named, outcomes_of}
-use Rattle.bookkeeping.specs.Books.{Account, Order, Airing, Book, opened, issued, on_air, account_of}
+use Rattle.bookkeeping.specs.Books.{Order, Book, opened, issued, on_air, account_of}
 use Rattle.bookkeeping.specs.Log.{Note, Call, issue, carry_out, report, Reply, goes_on, refused, Agrees}
 use Rattle.bookkeeping.specs.Pasts.{Event, Past, log_of, EachAnswered}
 

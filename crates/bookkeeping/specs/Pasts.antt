@@ -1,11 +1,10 @@
 -- The whole past of a book.
-use Rattle.std.specs.Prelude.{◌≡◌, ℕ, ◌+◌, ◌<◌, ◌≤◌, ◌↔◌, true, Bool, false, List, [], ◌∷◌, Option, Some, None, ⊤, filter}
-use Rattle.interface.specs.Limits.{most_windows}
+use Rattle.std.specs.Prelude.{◌≡◌, ℕ, ◌<◌, List, [], ◌∷◌, Some, ⊤}
 use Rattle.interface.specs.Plants.{Model, Lawful}
 use Rattle.bookkeeping.specs.declared.stage.Stage.TheVariants.{Open, Issued, OnAir}
 use Rattle.bookkeeping.specs.Books.{Account, Order, Airing, Book, opened, issued, on_air, fresh, aired, account_of, Bounded}
 use Rattle.bookkeeping.specs.Calls.{MayIssue, ordered, IssueRefused, Reported, ReportRefused}
-use Rattle.bookkeeping.specs.Log.{Note, Log, start, Call, issue, carry_out, report, Reply, goes_on, refused, reply, after, Agrees}
+use Rattle.bookkeeping.specs.Log.{Log, start, Call, issue, carry_out, report, Reply, goes_on, refused, reply, after}
 
 -- One call of a book, with what it was told.
 pub record Event : Type 0 where

@@ -1,11 +1,10 @@
 -- A run of calls of one book, in the order of time.
 use Rattle.std.specs.Prelude.{◌≡◌, ℕ, Bool, true, false, List, [], ◌∷◌, ◌++◌, map, length, take, drop, Option, Some, None, option_map, count_by}
 use Rattle.interface.specs.Plants.{Model}
-use Rattle.bookkeeping.specs.declared.stage.Stage.{Stage}
-use Rattle.bookkeeping.specs.declared.stage.Stage.TheVariants.{Open, Issued, OnAir}
+use Rattle.bookkeeping.specs.declared.stage.Stage.TheVariants.{OnAir}
 use Rattle.bookkeeping.specs.declared.standing.Call as asking
 use Rattle.bookkeeping.specs.declared.standing.Answer.{Answer}
-use Rattle.bookkeeping.specs.declared.standing.Answer.TheVariants.{Next, Refused}
+use Rattle.bookkeeping.specs.declared.standing.Answer.TheVariants.{Next}
 use Rattle.bookkeeping.specs.Books.{Book, account_of}
 use Rattle.bookkeeping.specs.Log.{Note, Log, start, Call, Reply, reply, after, Agrees}
 use Rattle.bookkeeping.specs.LookingBack.{AccountFor, EachOf, GoesOn}

@@ -20,10 +20,8 @@ pub fn run<P: Plant>(
     ensures made { IsOk result ↔ (state < (P.model plant.now).states) }
     ensures refused { (n p : ℕ) → IsNotMade result n p ↔ MakeRefused (P.model plant.now) state n p }
     ensures untouched { OnErr result (answers.new ≡ answers.old) }
-    ensures ran {
-        IfOk result (λ book. RanInto (P.model plant.now) state calls.now answers.old answers.new
-        (book_of book))
-    }
+    ensures ran { IfOk result (λ book. RanInto (P.model plant.now) state calls.now answers.old answers.new
+        (book_of book)) }
 {
     let mut book = Standing::Open(Open::make(plant, state)?);
     for at in 0..calls.len().min(answers.len()) {

@@ -1,4 +1,4 @@
-use Rattle.std.proofs.Common.{◌≡◌, ℕ, min, length, sym, ◌∙◌, arith, rules}
+use Rattle.std.proofs.Common.{arith, rules}
 use Rattle.bookkeeping.specs.Standings.{book_of}
 use Rattle.bookkeeping.proofs.Running.{through_more, through}
 use Rattle.bookkeeping.proofs.run.run.Goals as goal
