@@ -10,7 +10,8 @@ use Rattle.interface.specs.Limits.{most_windows}
 use Rattle.interface.specs.Plants.{Model, Lawful, LawfulBill, named, bill_of, outcomes_of}
 use Rattle.bookkeeping.specs.declared.stage.Stage.TheVariants.{Open, Issued, OnAir}
 use Rattle.bookkeeping.specs.Books.{Account, Order, Airing, Book, opened, issued, on_air, fresh, airing, aired, moved, Bounded}
-use Rattle.bookkeeping.specs.Calls.{MayIssue, EntryOf, ordered, IssueRefused, infeasible, MayReport, Reported, ReportRefused, no_outcome}
+use Rattle.bookkeeping.specs.Calls.{MayIssue, ordered, IssueRefused, infeasible, MayReport, Reported, ReportRefused, no_outcome}
+use Rattle.bookkeeping.specs.Entries.{EntryOf}
 use Rattle.bookkeeping.specs.Log.{issue, carry_out, report, goes_on, refused}
 use Rattle.bookkeeping.specs.LookingBack.{Continues, GoesOn, IsAccountedFor, WasAllowed}
 use Rattle.bookkeeping.specs.Pasts.{Event, Past, Lasting, made, was_issued, issue_was_refused, was_carried_out, was_reported, report_was_refused}

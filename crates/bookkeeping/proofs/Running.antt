@@ -174,6 +174,8 @@ through m first calls old new b n end least inside =
         of_plant = subst (λ l. EachOf m l.notes) same (so.1.known m inside (all_beside m (take n calls) [] (log_replies (start first) cs) tt)).1;
         accounted = subst (λ l. AccountFor first l.notes b) same so.1.accounted;
         booked = agrees.windows;
+        seconds = agrees.seconds;
+        cents = agrees.cents;
         aired = end.aired ∙ agrees.windows;
         past = subst (λ z. GoesOn first (events_after [] z (log_replies (start first) z)) b) all so;
       };

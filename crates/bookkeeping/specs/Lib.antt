@@ -1,5 +1,6 @@
 pub mod Books
 pub mod Calls
+pub mod Entries
 pub mod Log
 pub mod LookingBack
 pub mod Pasts

@@ -98,7 +98,8 @@ abbrev pub AccountFor : ℕ → List Note → Book → Type 0
 AccountFor first ws (opened a) = Trail first ws a.state
 AccountFor first ws (issued o) = Trail first ws o.account.state
 AccountFor first [] (on_air w) = ⊥
-AccountFor first (n ∷ ws) (on_air w) = IsFeasible n × (n.state ≡ w.account.state) × (n.portfolio ≡ w.portfolio) × Trail first ws n.state
+AccountFor first (n ∷ ws) (on_air w) =
+    IsFeasible n × (n.state ≡ w.account.state) × (n.portfolio ≡ w.portfolio) × Trail first ws n.state
 
 -- An issue is refused for want of a window exactly when so many windows as a book takes lie before it.
 abbrev pub FullExactly : List Event → Type 0
@@ -156,4 +157,7 @@ Continues b e c = (first : ℕ) (es : List Event) → Past first es b → GoesOn
 -- Some plant allowed an order in the state in which its book stands, at the bill that it has.
 abbrev pub WasAllowed : Order → Type 0
 WasAllowed o =
-    ∥ ((m : Model) × Lawful m × (m.feasible o.account.state o.portfolio ≡ true) × (m.bill o.account.state o.portfolio ≡ o.bill)) ∥₁
+    ∥ ((m : Model)
+    × Lawful m
+    × (m.feasible o.account.state o.portfolio ≡ true)
+    × (m.bill o.account.state o.portfolio ≡ o.bill)) ∥₁

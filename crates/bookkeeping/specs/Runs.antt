@@ -6,7 +6,7 @@ use Rattle.bookkeeping.specs.declared.standing.Call as asking
 use Rattle.bookkeeping.specs.declared.standing.Answer.{Answer}
 use Rattle.bookkeeping.specs.declared.standing.Answer.TheVariants.{Next}
 use Rattle.bookkeeping.specs.Books.{Book, account_of}
-use Rattle.bookkeeping.specs.Log.{Note, Log, start, Call, Reply, reply, after, Agrees}
+use Rattle.bookkeeping.specs.Log.{Note, Log, start, Call, Reply, reply, after, noted_seconds, noted_cents, Agrees}
 use Rattle.bookkeeping.specs.LookingBack.{AccountFor, EachOf, GoesOn}
 use Rattle.bookkeeping.specs.Pasts.{Event}
 use Rattle.bookkeeping.specs.Standings.{asked, reply_of}
@@ -42,17 +42,20 @@ pub record Ran (m : Model) (first : ℕ) (cs : List Call) (told : List (Option A
   -- each answer is the log's, and the book shows what the log says at its end
   pub replies : map (option_map reply_of) told ≡ log_replies (start first) cs
   pub agrees : Agrees (log_after (start first) cs) b
-  -- windows of this plant account for the book, one for each answer that a window is on air
+  -- windows of this plant account for the book, one for each answer that a window is on air, and their bills for its totals
   pub windows : List Note
   pub of_plant : EachOf m windows
   pub accounted : AccountFor first windows b
-  pub booked : (account_of b).windows ≡ length windows
   pub aired : count_by is_aired told ≡ length windows
+  pub booked : (account_of b).windows ≡ length windows
+  pub seconds : (account_of b).seconds ≡ noted_seconds windows
+  pub cents : (account_of b).cents ≡ noted_cents windows
   -- the calls that fitted are the past of the book
   pub past : GoesOn first (events_after [] cs (log_replies (start first) cs)) b
 
 -- The answers to a run stand in the space that was lent for them, as many as there is room for.
-pub record RanInto (m : Model) (first : ℕ) (calls : List asking.Call) (old new : List (Option Answer)) (b : Book) : Type 0 where
+pub record RanInto (m : Model) (first : ℕ) (calls : List asking.Call) (old new : List (Option Answer)) (b : Book)
+    : Type 0 where
   pub told : List (Option Answer)
   pub written : new ≡ told ++ drop (length told) old
   pub ran : Ran m first (with_room m calls old) told b

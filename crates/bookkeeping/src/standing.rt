@@ -42,9 +42,11 @@ pub enum Answer {
 }
 
 impl Standing {
-    /// One call of the book. A call that does not fit its stage has no answer and leaves the book as it is.
+    /// One call of the book. A call that does not fit its stage has no answer and leaves the book
+    /// as it is.
     pub fn call<P: Plant>(self, plant: &P, call: &Call) -> (Standing, Option<Answer>)
-        ensures fits { IsSome result.1 ↔ (fits (book_of self) (asked (P.model plant.now) call.now) ≡ true) }
+        ensures fits { IsSome result.1 ↔
+            (fits (book_of self) (asked (P.model plant.now) call.now) ≡ true) }
         ensures answered { Answered (book_of self) (asked (P.model plant.now) call.now) result.1
             (book_of result.0) }
         ensures past { IfSome result.1 (λ answer. Continues (book_of self)
