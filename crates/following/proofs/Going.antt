@@ -1,16 +1,16 @@
 -- How a book goes through a list window by window, and what a following that ended so says.
-use Rattle.std.proofs.Common.{◌≡◌, ℕ, zero, suc, ◌+◌, ◌≤◌, ◌<◌, ◌↔◌, true, false, List, [], ◌∷◌, length, take, get_or, Option, Some, None, sym, refl, ap, ◌∙◌, subst, arith}
+use Rattle.std.proofs.Common.{◌≡◌, ℕ, zero, suc, ◌<◌, ◌↔◌, true, List, [], ◌∷◌, length, take, get_or, Option, Some, sym, refl, ap, ◌∙◌, subst, arith}
 use Rattle.std.specs.Prelude.{IsNone}
 use Rattle.std.proofs.lemmas.Option.{slice_get_within}
 use Rattle.interface.specs.Plants.{Model, Lawful, named, outcomes_of}
 use Rattle.bookkeeping.specs.declared.refusal.Refusal.{Refusal}
-use Rattle.bookkeeping.specs.Books.{Account, Airing, Book, opened, issued, on_air, moved, aired}
+use Rattle.bookkeeping.specs.Books.{Account, Airing, Book, opened, on_air, moved, aired}
 use Rattle.bookkeeping.specs.Calls.{MayIssue, ordered, IssueRefused, full, no_state, wrong_length, infeasible, Reported, ReportRefused, not_allowed, no_outcome}
-use Rattle.bookkeeping.specs.Pasts.{Event, Past, made, was_issued, issue_was_refused, was_carried_out, was_reported, report_was_refused}
+use Rattle.bookkeeping.specs.Pasts.{Event, Past, was_issued, issue_was_refused, was_carried_out, was_reported, report_was_refused}
 use Rattle.bookkeeping.specs.Refusals.{number_of, place_of}
 use Rattle.bookkeeping.proofs.Keeping.{kept}
-use Rattle.following.specs.Promises.{Policies, always, GoesThrough}
-use Rattle.following.specs.Endings.{WentThrough, WindowRefused, not_issued, not_reported, Ends, through, stopped, CanGo, carried, windows, last_calls, calls, Follows}
+use Rattle.following.specs.Promises.{always, GoesThrough}
+use Rattle.following.specs.Endings.{WentThrough, WindowRefused, not_issued, not_reported, Ends, through, stopped, CanGo, windows, last_calls, calls, Follows}
 use Rattle.following.proofs.Charging.{run, goes}
 
 -- one window more

@@ -1,10 +1,10 @@
 -- How following a policy through a list of outcomes ends.
-use Rattle.std.specs.Prelude.{◌≡◌, ℕ, ◌+◌, ◌<◌, ◌≤◌, List, [], ◌∷◌, length, take, get_or, Option, Some, None}
+use Rattle.std.specs.Prelude.{ℕ, ◌+◌, ◌<◌, ◌≤◌, List, [], ◌∷◌, length, take, get_or, Option, Some, None}
 use Rattle.interface.specs.Limits.{most_windows}
 use Rattle.interface.specs.Plants.{Model}
 use Rattle.bookkeeping.specs.declared.refusal.Refusal.{Refusal}
 use Rattle.bookkeeping.specs.declared.stage.Stage.TheVariants.{Open, Issued, OnAir}
-use Rattle.bookkeeping.specs.Books.{Account, Book, opened, issued, on_air, aired}
+use Rattle.bookkeeping.specs.Books.{Account, Book, opened, on_air, aired}
 use Rattle.bookkeeping.specs.Calls.{MayIssue, ordered, IssueRefused, Reported, ReportRefused}
 use Rattle.bookkeeping.specs.LookingBack.{GoesOn}
 use Rattle.bookkeeping.specs.Log.{issue, carry_out, report, goes_on, refused}

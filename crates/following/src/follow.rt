@@ -55,10 +55,8 @@ fn window<P: Plant>(
     outcome: usize,
 ) -> Result<Open, Refused<Standing>>
     ensures through { IfOk result (WentThrough (P.model plant.now) policy.now book outcome) }
-    ensures refused {
-        IfErr result (λ r.
-            WindowRefused (P.model plant.now) policy.now book outcome (book_of r.book) r.why)
-    }
+    ensures refused { IfErr result (λ r.
+        WindowRefused (P.model plant.now) policy.now book outcome (book_of r.book) r.why) }
 {
     match book.issue(plant, policy) {
         Ok(order) => match order.carry_out().report(plant, outcome) {
@@ -77,10 +75,8 @@ fn window<P: Plant>(
 
 // A window for each outcome, up to the first that is refused.
 fn walk<P: Plant>(plant: &P, policy: &[u16], book: Open, outcomes: &[usize]) -> Walked
-    ensures {
-        Ends (P.model plant.now) policy.now book outcomes.now
-            result.windows (book_of result.book) result.refused
-    }
+    ensures { Ends (P.model plant.now) policy.now book outcomes.now
+        result.windows (book_of result.book) result.refused }
 {
     let mut book = book;
     for (windows, outcome) in outcomes.iter().enumerate() {
@@ -114,50 +110,34 @@ pub fn follow<P: Plant, T: Tariff>(
     outcomes: &[usize],
 ) -> Result<Followed<T::Amount>, Unfollowed>
     // followed exactly when sound
-    ensures exact {
-        IsOk result
+    ensures exact { IsOk result
         ↔ Sound (P.model plant.now) (T.scale tariff.now) (map T.Tariff.row values.now) policy.now
-            (T.Tariff.row claims.low) (T.Tariff.row claims.high)
-    }
+        (T.Tariff.row claims.low) (T.Tariff.row claims.high) }
     // else the very same book comes back, and why the certificate is refused
     ensures kept { IfErr result (λ u. u.book ≡ book) }
-    ensures refused {
-        IfErr result (λ u.
-            RefusedAs (P.model plant.now) (T.scale tariff.now) (map T.Tariff.row values.now)
-                policy.now (T.Tariff.row claims.low) (T.Tariff.row claims.high)
-                (number_of u.why) (place_of u.why))
-    }
-    ensures finding {
-        IfOk result (λ f.
-            Finds T.Tariff.row (P.model plant.now) (T.scale tariff.now) (map T.Tariff.row values.now)
-                claims.low claims.high f.finding)
-    }
+    ensures refused { IfErr result (λ u.
+        RefusedAs (P.model plant.now) (T.scale tariff.now) (map T.Tariff.row values.now)
+        policy.now (T.Tariff.row claims.low) (T.Tariff.row claims.high)
+        (number_of u.why) (place_of u.why)) }
+    ensures finding { IfOk result (λ f.
+        Finds T.Tariff.row (P.model plant.now) (T.scale tariff.now) (map T.Tariff.row values.now)
+        claims.low claims.high f.finding) }
     // whatever happens to this list, the finding bounds the cost of every book that follows
-    ensures promise {
-        IfOk result (λ f.
-            Promised T.Tariff.row (P.model plant.now) (T.scale tariff.now) policy.now f.finding)
-    }
+    ensures promise { IfOk result (λ f.
+        Promised T.Tariff.row (P.model plant.now) (T.scale tariff.now) policy.now f.finding) }
     // how far the book came, and what was refused first
-    ensures ends {
-        IfOk result (λ f.
-            Ends (P.model plant.now) policy.now book outcomes.now
-                f.windows (book_of f.book) f.refused)
-    }
+    ensures ends { IfOk result (λ f.
+        Ends (P.model plant.now) policy.now book outcomes.now
+        f.windows (book_of f.book) f.refused) }
     // nothing is refused exactly when all outcomes went through
-    ensures all {
-        IfOk result (λ f. IsNone f.refused ↔ (f.windows ≡ length outcomes.now))
-    }
+    ensures all { IfOk result (λ f. IsNone f.refused ↔ (f.windows ≡ length outcomes.now)) }
     // a list that the book can meet, with room for it, goes through whole
-    ensures whole {
-        CanGo (P.model plant.now) policy.now book outcomes.now
-        → IfOk result (λ f. IsNone f.refused)
-    }
+    ensures whole { CanGo (P.model plant.now) policy.now book outcomes.now
+        → IfOk result (λ f. IsNone f.refused) }
     // each past of the book goes on by the calls of these windows
-    ensures past {
-        IfOk result (λ f.
-            Follows (P.model plant.now) policy.now book outcomes.now
-                f.windows (book_of f.book) f.refused)
-    }
+    ensures past { IfOk result (λ f.
+        Follows (P.model plant.now) policy.now book outcomes.now
+        f.windows (book_of f.book) f.refused) }
 {
     match accept(plant, tariff, values, policy, claims) {
         Err(why) => Err(Unfollowed { book, why }),

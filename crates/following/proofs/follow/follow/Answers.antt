@@ -1,4 +1,4 @@
-use Rattle.std.proofs.Common.{◌≡◌, map, rules}
+use Rattle.std.proofs.Common.{map, rules}
 use Rattle.bookkeeping.specs.Standings.{book_of}
 use Rattle.certificate.specs.Certificates.{Sound}
 use Rattle.following.proofs.Going.{all_or_not, goes_whole, follows}

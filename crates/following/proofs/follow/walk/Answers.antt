@@ -1,6 +1,5 @@
-use Rattle.std.proofs.Common.{◌≡◌, ℕ, ◌+◌, ◌<◌, length, take, get_or, sym, ap, ◌∙◌, subst, add-one, arith, rules}
-use Rattle.bookkeeping.specs.Standings.{book_of}
-use Rattle.following.specs.Endings.{WentThrough, WindowRefused, Ends, through, stopped}
+use Rattle.std.proofs.Common.{◌≡◌, length, take, subst, add-one, arith}
+use Rattle.following.specs.Endings.{through, stopped}
 use Rattle.following.specs.Promises.{always, GoesThrough}
 use Rattle.following.proofs.Going.{one_more, take_whole}
 use Rattle.following.proofs.follow.walk.Goals as goal

@@ -1,6 +1,6 @@
 use Rattle.std.proofs.Common.{◌≡◌, refl, ap, ◌∙◌, subst, rules}
 use Rattle.bookkeeping.specs.Books.{aired}
-use Rattle.bookkeeping.specs.Calls.{MayIssue, ordered, IssueRefused, ReportRefused}
+use Rattle.bookkeeping.specs.Calls.{MayIssue, ordered, ReportRefused}
 use Rattle.bookkeeping.specs.Refusals.{number_of, place_of}
 use Rattle.following.proofs.Going.{order_refused, outcome_refused}
 use Rattle.following.proofs.follow.window.Goals as goal
