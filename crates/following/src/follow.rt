@@ -98,8 +98,8 @@ fn walk<P: Plant>(plant: &P, policy: &[u16], book: Open, outcomes: &[usize]) -> 
     }
 }
 
-/// Checks a certificate, and follows it with an open book through a window for each outcome, up to the
-/// first call that is refused. A certificate that is refused is not followed: the book comes back.
+/// Checks a certificate, and follows it with an open book through a window for each outcome, up to
+/// the first call that is refused. If the certificate is refused, the book comes back as it was.
 pub fn follow<P: Plant, T: Tariff>(
     plant: &P,
     tariff: &T,
