@@ -10,9 +10,13 @@ pub record Account : Type 0 where
   pub seconds : ℕ
   pub cents : ℕ
 
--- A new book's account: it stands in a state and has booked nothing.
+-- The account that stands in a state and has booked so many windows, seconds and cents.
+abbrev pub account : ℕ → ℕ → ℕ → ℕ → Account
+account s w t c = record { state = s; windows = w; seconds = t; cents = c }
+
+-- A new book's account: it has booked nothing.
 abbrev pub fresh : ℕ → Account
-fresh s = record { state = s; windows = 0; seconds = 0; cents = 0 }
+fresh s = account s 0 0 0
 
 -- An order that is out: the portfolio that is to be carried out, and its bill.
 pub record Order : Type 0 where
@@ -20,18 +24,24 @@ pub record Order : Type 0 where
   pub portfolio : ℕ
   pub bill : Bill
 
+abbrev pub order : ℕ → ℕ → ℕ → ℕ → ℕ → Bill → Order
+order s w t c x b = record { account = account s w t c; portfolio = x; bill = b }
+
 -- A window that is on air: its portfolio was carried out, and what came of it is not yet reported.
 pub record Airing : Type 0 where
   pub account : Account
   pub portfolio : ℕ
 
+abbrev pub airing : ℕ → ℕ → ℕ → ℕ → ℕ → Airing
+airing s w t c x = record { account = account s w t c; portfolio = x }
+
 -- An account with one more window of this bill.
 abbrev pub booked : Account → Bill → Account
-booked a b = record { state = a.state; windows = a.windows + 1; seconds = a.seconds + b.seconds; cents = a.cents + b.cents }
+booked a b = account a.state (a.windows + 1) (a.seconds + b.seconds) (a.cents + b.cents)
 
 -- An account in another state.
 abbrev pub moved : Account → ℕ → Account
-moved a s = record { state = s; windows = a.windows; seconds = a.seconds; cents = a.cents }
+moved a s = account s a.windows a.seconds a.cents
 
 -- What an order becomes when it is carried out.
 abbrev pub aired : Order → Airing

@@ -4,3 +4,4 @@ pub mod Log
 pub mod LookingBack
 pub mod Pasts
 pub mod Refusals
+pub mod Results

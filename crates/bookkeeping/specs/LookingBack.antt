@@ -2,7 +2,7 @@
 use Rattle.std.specs.Prelude.{◌≡◌, ◌≢◌, ℕ, ◌+◌, ◌<◌, ◌≤◌, ◌↔◌, true, Bool, false, List, [], ◌∷◌, length, Option, Some, None, ⊤, filter, count_by, slice_get}
 use Rattle.interface.specs.declared.plant.Outcome.{Outcome}
 use Rattle.interface.specs.Limits.{most_windows}
-use Rattle.interface.specs.Plants.{Model, outcomes_of}
+use Rattle.interface.specs.Plants.{Model, Lawful, outcomes_of}
 use Rattle.bookkeeping.specs.Books.{Account, Order, Airing, Book, opened, issued, on_air, account_of}
 use Rattle.bookkeeping.specs.Log.{Note, Call, issue, carry_out, report, Reply, goes_on, refused, Agrees}
 use Rattle.bookkeeping.specs.Pasts.{Event, Past, log_of, EachAnswered}
@@ -117,3 +117,12 @@ GoesOn first es b = Past first es b × Kept first es b
 -- Some past accounts for a book.
 abbrev pub IsAccountedFor : Book → Type 0
 IsAccountedFor b = ∥ ((first : ℕ) × (es : List Event) × GoesOn first es b) ∥₁
+
+-- Whatever past led to a book goes on, by an event, to another.
+abbrev pub Continues : Book → Event → Book → Type 0
+Continues b e c = (first : ℕ) (es : List Event) → Past first es b → GoesOn first (e ∷ es) c
+
+-- Some plant allowed an order in the state in which its book stands, at the bill that it has.
+abbrev pub WasAllowed : Order → Type 0
+WasAllowed o =
+    ∥ ((m : Model) × Lawful m × (m.feasible o.account.state o.portfolio ≡ true) × (m.bill o.account.state o.portfolio ≡ o.bill)) ∥₁

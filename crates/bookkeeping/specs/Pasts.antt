@@ -1,9 +1,9 @@
 -- The whole past of a book.
 use Rattle.std.specs.Prelude.{◌≡◌, ℕ, ◌+◌, ◌<◌, ◌≤◌, ◌↔◌, true, Bool, false, List, [], ◌∷◌, Option, Some, None, ⊤, filter}
 use Rattle.interface.specs.Limits.{most_windows}
-use Rattle.interface.specs.Plants.{Model, Lawful, outcomes_of}
+use Rattle.interface.specs.Plants.{Model, Lawful}
 use Rattle.bookkeeping.specs.declared.stage.Stage.TheVariants.{Open, Issued, OnAir}
-use Rattle.bookkeeping.specs.Books.{Account, Order, Airing, Book, opened, issued, on_air, fresh, aired, account_of, held_by}
+use Rattle.bookkeeping.specs.Books.{Account, Order, Airing, Book, opened, issued, on_air, fresh, aired, account_of, Bounded}
 use Rattle.bookkeeping.specs.Calls.{MayIssue, ordered, IssueRefused, Reported, ReportRefused}
 use Rattle.bookkeeping.specs.Log.{Note, Log, start, Call, issue, carry_out, report, Reply, goes_on, refused, reply, after, Agrees}
 
@@ -31,6 +31,11 @@ pub data Past (first : ℕ) : List Event → Book → Type 0 where
 -- Some past leads to a book.
 abbrev pub HasPast : Book → Type 0
 HasPast b = (first : ℕ) × (es : List Event) × Past first es b
+
+-- What every book keeps: it has booked no more than so many windows can cost, and some past leads to it.
+pub record Lasting (b : Book) : Type 0 where
+  pub bounded : Bounded (account_of b)
+  pub past : ∥ HasPast b ∥₁
 
 -- The log that is fed the calls of a past.
 abbrev pub log_of : ℕ → List Event → Log

@@ -1,8 +1,7 @@
 -- The number and the place of each refusal.
-use Rattle.std.specs.Prelude.{◌≡◌, ℕ, Ok, Err, Result}
+use Rattle.std.specs.Prelude.{ℕ}
 use Rattle.bookkeeping.specs.declared.refusal.Refusal.{Refusal}
 use Rattle.bookkeeping.specs.declared.refusal.Refusal.TheVariants.{NoState, WrongLength, Infeasible, NoOutcome, Full}
-use Rattle.bookkeeping.specs.declared.refusal.Refused.{Refused}
 
 abbrev pub number_of : Refusal → ℕ
 number_of (NoState s) = 21
@@ -18,4 +17,3 @@ place_of WrongLength = 0
 place_of (Infeasible s) = s
 place_of (NoOutcome k) = k
 place_of Full = 0
-

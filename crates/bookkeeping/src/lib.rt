@@ -1,5 +1,6 @@
 //! Books that follow a policy window by window, their log, and their whole past.
 #![tactic(auto)]
 
+pub mod book;
 pub mod refusal;
 pub mod stage;
