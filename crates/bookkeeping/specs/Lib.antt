@@ -5,3 +5,4 @@ pub mod LookingBack
 pub mod Pasts
 pub mod Refusals
 pub mod Results
+pub mod Standings

@@ -15,6 +15,13 @@ is_accepted e = accepted e.reply
     accepted (goes_on s) = true
     accepted (refused n p) = false
 
+abbrev pub is_issue : Event → Bool
+is_issue e = asks e.call
+  where
+    asks : Call → Bool
+    asks (issue m ps) = true
+    asks c = false
+
 abbrev pub is_order : Event → Bool
 is_order e = order e.call e.reply
   where
@@ -71,10 +78,11 @@ AccountFor first ws (issued o) = Trail first ws o.account.state
 AccountFor first [] (on_air w) = ⊥
 AccountFor first (n ∷ ws) (on_air w) = IsFeasible n × (n.state ≡ w.account.state) × (n.portfolio ≡ w.portfolio) × Trail first ws n.state
 
--- An order is refused for want of a window exactly when so many windows as a book takes lie before it.
+-- An issue is refused for want of a window exactly when so many windows as a book takes lie before it.
 abbrev pub FullExactly : List Event → Type 0
 FullExactly [] = ⊤
-FullExactly (e ∷ es) = (e.reply ≡ refused 24 0 → most_windows ≤ windows_of es) × (is_order e ≡ true → windows_of es < most_windows) × FullExactly es
+FullExactly (e ∷ es) =
+    (is_issue e ≡ true → (e.reply ≡ refused 24 0) ↔ (most_windows ≤ windows_of es)) × FullExactly es
 
 -- Every call of a past goes beside this plant.
 abbrev pub IsBeside : Model → Call → Type 0

@@ -4,3 +4,4 @@
 pub mod book;
 pub mod refusal;
 pub mod stage;
+pub mod standing;

@@ -1,0 +1,140 @@
+-- What each call needs to be known of the book that it makes.
+use Rattle.std.proofs.Common.{◌≡◌, ℕ, ◌+◌, ◌<◌, ◌≤◌, ◌↔◌, true, false, Bool, cond, List, [], ◌∷◌, length, get_or, Some, None, ◌⊎◌, inl, inr, sym, refl, ap, ◌∙◌, subst, arith}
+use Rattle.std.proofs.Math.Logic.{∥∥₁_map, ∥∥₁_elim}
+use Rattle.std.specs.List.{slice_get}
+use Rattle.std.specs.Coded.{le_prop}
+use Rattle.std.proofs.lemmas.Option.{slice_get_cases}
+use Rattle.interface.specs.declared.plant.Bill.{Bill}
+use Rattle.interface.specs.declared.plant.Outcome.{Outcome}
+use Rattle.interface.specs.Limits.{most_windows, most_seconds, most_cents}
+use Rattle.interface.specs.Plants.{Model, Lawful, LawfulBill, named, bill_of, outcomes_of}
+use Rattle.bookkeeping.specs.declared.stage.Stage.TheVariants.{Open, Issued, OnAir}
+use Rattle.bookkeeping.specs.Books.{Account, Order, Airing, Book, opened, issued, on_air, fresh, aired, moved, Bounded}
+use Rattle.bookkeeping.specs.Calls.{MayIssue, EntryOf, ordered, IssueRefused, infeasible, MayReport, Reported, ReportRefused, not_allowed, no_outcome}
+use Rattle.bookkeeping.specs.Log.{issue, carry_out, report, goes_on, refused}
+use Rattle.bookkeeping.specs.LookingBack.{Continues, GoesOn, IsAccountedFor, WasAllowed}
+use Rattle.bookkeeping.specs.Pasts.{Event, Past, HasPast, Lasting, made, was_issued, issue_was_refused, was_carried_out, was_reported, report_was_refused}
+use Rattle.bookkeeping.proofs.Keeping.{kept}
+
+-- a past is kept
+pub goes_on_so : (first : ℕ) (es : List Event) (b : Book) → Past first es b → GoesOn first es b
+goes_on_so first es b past = (past, kept first es b past)
+
+-- a book of some past is accounted for
+pub accounted : (b : Book) → Lasting b → IsAccountedFor b
+accounted b lasting = ∥∥₁_map lasting.past (λ p. (p.0, p.1, goes_on_so p.0 p.1 b p.2))
+
+-- an order of some past was allowed by some plant
+allowed_past : (first : ℕ) (es : List Event) (o : Order) → Past first es (issued o)
+    → (m : Model) × Lawful m × (m.feasible o.account.state o.portfolio ≡ true) × (m.bill o.account.state o.portfolio ≡ o.bill)
+allowed_past first es o (was_issued m ps before lawful may) = (m, lawful, may.feasible, refl)
+
+pub was_allowed : (o : Order) → Lasting (issued o) → WasAllowed o
+was_allowed o lasting = ∥∥₁_map lasting.past (λ p. allowed_past p.0 p.1 o p.2)
+
+-- it has a window left, and a lawful bill
+due : (first : ℕ) (es : List Event) (o : Order) → Past first es (issued o) → (o.account.windows < most_windows) × LawfulBill o.bill
+due first es o (was_issued {a = a} m ps before lawful may) = (may.room, lawful.billed a.state (named ps a.state) may.feasible)
+
+-- a bill that is there
+bill_there : (m : Model) (s x : ℕ) (b : Bill) → bill_of m s x ≡ Some b → (m.feasible s x ≡ true) × (m.bill s x ≡ b)
+bill_there m s x b e = by_test (m.feasible s x) refl e
+  where
+    by_test : (t : Bool) → m.feasible s x ≡ t → cond t (Some (m.bill s x)) None ≡ Some b → (m.feasible s x ≡ true) × (m.bill s x ≡ b)
+    by_test true so there = (so, cc)
+    by_test false so there = let z : ◌≡◌ {A = ℕ} 0 1 = cc in absurd (omega arith)
+
+-- a bill that is absent
+bill_absent : (m : Model) (s x : ℕ) → bill_of m s x ≡ None → m.feasible s x ≡ false
+bill_absent m s x e = by_test (m.feasible s x) refl e
+  where
+    by_test : (t : Bool) → m.feasible s x ≡ t → cond t (Some (m.bill s x)) None ≡ None → m.feasible s x ≡ false
+    by_test true so there = let z : ◌≡◌ {A = ℕ} 0 1 = cc in absurd (omega arith)
+    by_test false so there = so
+
+-- an entry that is feasible may be issued
+pub entry_may : (m : Model) (a : Account) (ps : List ℕ) (x : ℕ) → EntryOf m a ps x → m.feasible a.state x ≡ true → MayIssue m a ps
+entry_may m a ps x entry may = record {
+  room = entry.room;
+  state = entry.state;
+  policy = entry.policy;
+  feasible = ap (λ y. m.feasible a.state y) (sym entry.entry) ∙ may;
+}
+
+-- the order that is made
+pub order_made : (m : Model) (a : Account) (ps : List ℕ) (x : ℕ) (b : Bill) → EntryOf m a ps x → bill_of m a.state x ≡ Some b
+    → MayIssue m a ps × (ordered m a ps ≡ record { account = a; portfolio = x; bill = b })
+order_made m a ps x b entry there =
+    let bill = bill_there m a.state x b there in (
+      entry_may m a ps x entry bill.0,
+      ap (λ y. record { account = a; portfolio = y; bill = m.bill a.state y }) (sym entry.entry) ∙ ap (λ z. record { account = a; portfolio = x; bill = z }) bill.1,
+    )
+
+pub order_refused : (m : Model) (a : Account) (ps : List ℕ) (x : ℕ) → EntryOf m a ps x → bill_of m a.state x ≡ None → IssueRefused m a ps 22 a.state
+order_refused m a ps x entry none =
+    infeasible entry.room entry.state entry.policy (ap (λ y. m.feasible a.state y) (sym entry.entry) ∙ bill_absent m a.state x none)
+
+-- a book lasts
+pub lasting_make : (m : Model) (s : ℕ) → Lawful m → s < m.states → Lasting (opened (fresh s))
+lasting_make m s lawful inside = record {
+  bounded = record { windows = omega arith; seconds = omega arith; cents = omega arith };
+  past = ∣ (s, [], made m lawful inside) ∣₁;
+}
+
+pub lasting_issue : (m : Model) (a : Account) (ps : List ℕ) → Lawful m → Lasting (opened a) → MayIssue m a ps → Lasting (issued (ordered m a ps))
+lasting_issue m a ps lawful lasting may = record {
+  bounded = record { windows = lasting.bounded.windows; seconds = lasting.bounded.seconds; cents = lasting.bounded.cents };
+  past = ∥∥₁_map lasting.past (λ p. (p.0, record { call = issue m ps; reply = goes_on Issued } ∷ p.1, was_issued m ps p.2 lawful may));
+}
+
+pub lasting_carry_out : (o : Order) → Lasting (issued o) → Lasting (on_air (aired o))
+lasting_carry_out o lasting = record {
+  bounded = record {
+    windows = ∥∥₁_elim lasting.past le_prop (λ p. let d = due p.0 p.1 o p.2 in omega arith);
+    seconds = ∥∥₁_elim lasting.past le_prop (λ p. let d = due p.0 p.1 o p.2 in omega (arith, lasting.bounded.seconds, d.1.dark));
+    cents = ∥∥₁_elim lasting.past le_prop (λ p. let d = due p.0 p.1 o p.2 in omega (arith, lasting.bounded.cents, d.1.paid));
+  };
+  past = ∥∥₁_map lasting.past (λ p. (p.0, record { call = carry_out; reply = goes_on OnAir } ∷ p.1, was_carried_out p.2));
+}
+
+pub lasting_report : (m : Model) (w : Airing) (k : ℕ) (a : Account) → Lawful m → Lasting (on_air w) → Reported m w k a → Lasting (opened a)
+lasting_report m w k a lawful lasting told = record {
+  bounded = subst Bounded (sym told.moves) (record { windows = lasting.bounded.windows; seconds = lasting.bounded.seconds; cents = lasting.bounded.cents });
+  past = ∥∥₁_map lasting.past (λ p. (p.0, record { call = report m k; reply = goes_on Open } ∷ p.1, was_reported m k a p.2 lawful told));
+}
+
+-- and whatever past led to it goes on
+pub issue_goes_on : (m : Model) (a : Account) (ps : List ℕ) → Lawful m → MayIssue m a ps
+    → Continues (opened a) (record { call = issue m ps; reply = goes_on Issued }) (issued (ordered m a ps))
+issue_goes_on m a ps lawful may first es past = goes_on_so first _ _ (was_issued m ps past lawful may)
+
+pub no_issue_goes_on : (m : Model) (a : Account) (ps : List ℕ) (n p : ℕ) → Lawful m → IssueRefused m a ps n p
+    → Continues (opened a) (record { call = issue m ps; reply = refused n p }) (opened a)
+no_issue_goes_on m a ps n p lawful why first es past = goes_on_so first _ _ (issue_was_refused m ps n p past lawful why)
+
+pub carry_out_goes_on : (o : Order) → Continues (issued o) (record { call = carry_out; reply = goes_on OnAir }) (on_air (aired o))
+carry_out_goes_on o first es past = goes_on_so first _ _ (was_carried_out past)
+
+pub report_goes_on : (m : Model) (w : Airing) (k : ℕ) (a : Account) → Lawful m → Reported m w k a
+    → Continues (on_air w) (record { call = report m k; reply = goes_on Open }) (opened a)
+report_goes_on m w k a lawful told first es past = goes_on_so first _ _ (was_reported m k a past lawful told)
+
+pub no_report_goes_on : (m : Model) (w : Airing) (k n p : ℕ) → Lawful m → ReportRefused m w k n p
+    → Continues (on_air w) (record { call = report m k; reply = refused n p }) (on_air w)
+no_report_goes_on m w k n p lawful why first es past = goes_on_so first _ _ (report_was_refused m k n p past lawful why)
+
+-- an outcome that is there was reported, and may be
+pub outcome_told : (m : Model) (w : Airing) (k : ℕ) (o : Outcome) → slice_get (outcomes_of m w.account.state w.portfolio) k ≡ Some o
+    → Reported m w k (moved w.account o.next)
+outcome_told m w k o there = record { outcome = o; there = there; moves = refl }
+
+-- an outcome that is absent
+pub outcome_absent : (m : Model) (w : Airing) (k : ℕ) → m.feasible w.account.state w.portfolio ≡ true
+    → slice_get (outcomes_of m w.account.state w.portfolio) k ≡ None → ReportRefused m w k 23 k
+outcome_absent m w k may none = no_outcome may (by_cases (slice_get_cases (outcomes_of m w.account.state w.portfolio) k).1)
+  where
+    by_cases : ((x : Outcome) × (k < length (outcomes_of m w.account.state w.portfolio)) × (slice_get (outcomes_of m w.account.state w.portfolio) k ≡ Some x) × (get_or (outcomes_of m w.account.state w.portfolio) k x ≡ x))
+        ⊎ ((length (outcomes_of m w.account.state w.portfolio) ≤ k) × (slice_get (outcomes_of m w.account.state w.portfolio) k ≡ None))
+        → length (outcomes_of m w.account.state w.portfolio) ≤ k
+    by_cases (inl here) = let there = here.2 in let z : ◌≡◌ {A = ℕ} 0 1 = cc in absurd (omega arith)
+    by_cases (inr past) = past.0

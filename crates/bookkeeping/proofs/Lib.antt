@@ -1,0 +1,4 @@
+pub mod Booking
+pub mod Keeping
+pub mod Mirrors
+pub mod Replies
