@@ -10,8 +10,8 @@ use Rattle.interface.specs.declared.plant.Outcome.{Outcome}
 use Rattle.bookkeeping.specs.declared.stage.Stage.TheVariants.{Open, Issued, OnAir}
 use Rattle.bookkeeping.specs.Books.{Account, Order, Airing, Book, opened, issued, on_air, account_of, aired}
 use Rattle.bookkeeping.specs.Calls.{MayIssue, ordered, Reported, IssueRefused, full, no_state, wrong_length, infeasible, ReportRefused, not_allowed, no_outcome}
-use Rattle.bookkeeping.specs.Log.{Note, Log, start, Call, issue, carry_out, report, Reply, goes_on, refused, reply, after, after_reply, Agrees}
-use Rattle.bookkeeping.specs.LookingBack.{is_accepted, is_issue, is_order, is_carry_out, is_report, windows_of, TakesTurns, AccountFor, FullExactly, AllBeside, EachOf, NoneUnknown, Kept}
+use Rattle.bookkeeping.specs.Log.{Note, Log, start, Call, issue, carry_out, report, Reply, goes_on, refused, reply, after, after_reply, went_on, Agrees}
+use Rattle.bookkeeping.specs.LookingBack.{is_accepted, is_issue, is_order, is_carry_out, is_report, windows_of, TakesTurns, AccountFor, FullExactly, AllBeside, EachOf, NoneUnknown, orders_of, reports_of, IsOrdered, Ended, Made, MakesAt, Makes, Kept}
 use Rattle.bookkeeping.specs.Pasts.{Event, Past, made, was_issued, issue_was_refused, was_carried_out, was_reported, report_was_refused, log_of, EachAnswered}
 use Rattle.bookkeeping.proofs.Replies.{reported_may}
 use Rattle.bookkeeping.proofs.Mirrors.{Mirrors, Free, Out, Flying, Stepped, issue_done, issue_not_done, carried_out, reported, not_reported}
@@ -39,6 +39,37 @@ mirrored first es b (report_was_refused {es = earlier} {w = w} m k n p before la
     let so_far = mirrored first earlier (on_air w) before in
     let step = not_reported first (log_of first earlier) w m k n p so_far.1 why in
     ((step.answered, so_far.0), step.mirrors)
+
+-- one order more, carried out, and reported
+module _ (first : ℕ) (os : List (Model × List ℕ)) (rs : List (Model × ℕ)) where
+  makes_order : (l : Log) (m : Model) (ps : List ℕ) (s : ℕ) (ws : List Note) → l ≡ record { stage = Open; state = s; held = None; notes = ws }
+      → Makes first os rs l → Makes first ((m, ps) ∷ os) rs (went_on l (issue m ps))
+  makes_order l m ps s ws is makes =
+      subst (λ z. Makes first ((m, ps) ∷ os) rs (went_on z (issue m ps))) (sym is)
+      (record { plant = refl; state = refl; entry = refl }, subst (Makes first os rs) is makes)
+
+  makes_carry_out : (l : Log) (s : ℕ) (h : Note) (ws : List Note) → l ≡ record { stage = Issued; state = s; held = Some h; notes = ws }
+      → Makes first os rs l → Makes first os rs (after l carry_out)
+  makes_carry_out l s h ws is makes = subst (λ z. Makes first os rs (after z carry_out)) (sym is) (on_air_made os (subst (Makes first os rs) is makes))
+    where
+      on_air_made : (qs : List (Model × List ℕ)) → MakesAt first qs rs Issued s (Some h) ws → MakesAt first qs rs OnAir s (Some h) (h ∷ ws)
+      on_air_made [] none = none
+      on_air_made (q ∷ qs) some = (refl, some.0, some.1)
+
+  makes_report : (l : Log) (m : Model) (k s : ℕ) (h : Note) (ws : List Note) (o : Outcome) → l ≡ record { stage = OnAir; state = s; held = Some h; notes = h ∷ ws }
+      → h.state ≡ s → slice_get (outcomes_of m s h.portfolio) k ≡ Some o → Makes first os rs l → Makes first os ((m, k) ∷ rs) (went_on l (report m k))
+  makes_report l m k s h ws o is at there makes =
+      subst (λ z. Makes first os ((m, k) ∷ rs) (went_on z (report m k))) (sym is)
+      (rw there (landed os (subst (Makes first os rs) is makes)))
+    where
+      landed : (qs : List (Model × List ℕ)) → MakesAt first qs rs OnAir s (Some h) (h ∷ ws) → Made first qs ((m, k) ∷ rs) (h ∷ ws) o.next
+      landed [] none = absurd none
+      landed (q ∷ qs) some =
+          let from_window = ap (λ z. slice_get (outcomes_of m z h.portfolio) k) at ∙ there in (
+            subst (λ z. IsOrdered h q z) (sym at) some.1,
+            record { outcome = o; there = from_window; next = refl },
+            subst (Made first qs rs ws) (sym at) some.2,
+          )
 
 -- a log that goes with a book agrees with it
 agrees_from : (first : ℕ) (l : Log) (b : Book) → Mirrors first l b → Agrees l b
@@ -257,6 +288,35 @@ all_known first es b m (report_was_refused {es = earlier} {w = w} p k n q before
     never n q i same may (not_allowed out) told = let z : ◌≡◌ {A = ℕ} 0 1 = cc in omega arith
     never n q i same may (no_outcome feasible out) told = let z : ◌≡◌ {A = ℕ} 23 21 = cc in omega arith
 
+-- the log is what orders and reports make of the first state
+made_of : (first : ℕ) (es : List Event) (b : Book) → Past first es b → Makes first (orders_of es) (reports_of es) (log_of first es)
+made_of first es b (made m lawful inside) = refl
+made_of first es b (was_issued {es = earlier} {a = a} m ps before lawful may) =
+    let l = log_of first earlier in
+    let free = (mirrored first earlier (opened a) before).1 in
+    let step = issue_done first l a m ps free may in
+    subst (λ z. Makes first ((m, ps) ∷ orders_of earlier) (reports_of earlier) (after_reply l (issue m ps) z)) (sym step.answered)
+    (makes_order first (orders_of earlier) (reports_of earlier) l m ps a.state free.notes free.is (made_of first earlier (opened a) before))
+made_of first es b (issue_was_refused {es = earlier} {a = a} m ps n p before lawful why) =
+    let l = log_of first earlier in
+    let step = issue_not_done first l a m ps n p (mirrored first earlier (opened a) before).1 why in
+    subst (λ z. Makes first (orders_of earlier) (reports_of earlier) (after_reply l (issue m ps) z)) (sym step.answered) (made_of first earlier (opened a) before)
+made_of first es b (was_carried_out {es = earlier} {o = o} before) =
+    let out = (mirrored first earlier (issued o) before).1 in
+    makes_carry_out first (orders_of earlier) (reports_of earlier) (log_of first earlier) o.account.state out.window out.notes out.is (made_of first earlier (issued o) before)
+made_of first es b (was_reported {es = earlier} {w = w} m k a before lawful told) =
+    let l = log_of first earlier in
+    let flying = (mirrored first earlier (on_air w) before).1 in
+    let step = reported first l w m k a flying told in
+    let there = ap (λ x. slice_get (outcomes_of m w.account.state x) k) flying.portfolio ∙ told.there in
+    subst (λ z. Makes first (orders_of earlier) ((m, k) ∷ reports_of earlier) (after_reply l (report m k) z)) (sym step.answered)
+    (makes_report first (orders_of earlier) (reports_of earlier) l m k w.account.state flying.window flying.notes told.outcome flying.is flying.state there
+    (made_of first earlier (on_air w) before))
+made_of first es b (report_was_refused {es = earlier} {w = w} m k n p before lawful why) =
+    let l = log_of first earlier in
+    let step = not_reported first l w m k n p (mirrored first earlier (on_air w) before).1 why in
+    subst (λ z. Makes first (orders_of earlier) (reports_of earlier) (after_reply l (report m k) z)) (sym step.answered) (made_of first earlier (on_air w) before)
+
 -- all that is kept of a past
 pub kept : (first : ℕ) (es : List Event) (b : Book) → Past first es b → Kept first es b
 kept first es b past =
@@ -265,6 +325,7 @@ kept first es b past =
     record {
       answered = log.0;
       agrees = agrees_from first (log_of first es) b log.1;
+      makes = made_of first es b past;
       accounted = accounts_from first (log_of first es) b log.1;
       windows = counts.0;
       turns = counts.1;

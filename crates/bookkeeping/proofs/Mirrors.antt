@@ -119,9 +119,9 @@ pub reported : (first : ℕ) (l : Log) (w : Airing) (m : Model) (k : ℕ) (a : A
 reported first l w m k a flying told =
     let reply_is = answers_report first l w m k (goes_on Open) flying (report_says m w k (reported_may m w k a told)) in
     let there : slice_get (outcomes_of m w.account.state flying.window.portfolio) k ≡ Some told.outcome =
-      ap (λ x. slice_get (outcomes_of m w.account.state x) k) flying.portfolio ∙ told.there in
+    ap (λ x. slice_get (outcomes_of m w.account.state x) k) flying.portfolio ∙ told.there in
     let from_window : slice_get (outcomes_of m flying.window.state flying.window.portfolio) k ≡ Some told.outcome =
-      ap (λ s. slice_get (outcomes_of m s flying.window.portfolio) k) flying.state ∙ there in
+    ap (λ s. slice_get (outcomes_of m s flying.window.portfolio) k) flying.state ∙ there in
     subst (λ z. Stepped first l (report m k) (goes_on Open) (opened z)) (sym told.moves) (record {
       answered = reply_is;
       mirrors = record {

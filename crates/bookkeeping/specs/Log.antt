@@ -59,8 +59,8 @@ reply_at s h l c = None
 abbrev pub reply : Log → Call → Option Reply
 reply l c = reply_at l.stage l.held l c
 
--- How the log goes on after a call that is not refused: an issue holds the policy's portfolio for its state, a carry-out notes
--- what is held as one window more, a report goes to the outcome's next state and holds nothing.
+-- How the log goes on after a call that is not refused. An order is held: the plant, the state and the policy's entry for it.
+-- Carried out, it is a note. When its outcome is told, the log stands where that outcome leads and holds nothing.
 abbrev pub went_on : Log → Call → Log
 went_on l (issue m ps) = record { stage = Issued; state = l.state; held = Some (record { plant = m; state = l.state; portfolio = named ps l.state }); notes = l.notes }
 went_on l carry_out = record { stage = OnAir; state = l.state; held = l.held; notes = with_held l.held l.notes }
@@ -73,6 +73,7 @@ went_on l (report m k) = record { stage = Open; state = next_state m k l.state l
     next_of : ℕ → Option Outcome → ℕ
     next_of s None = s
     next_of s (Some o) = o.next
+
     next_state : Model → ℕ → ℕ → Option Note → ℕ
     next_state m k s None = s
     next_state m k s (Some held) = next_of s (slice_get (outcomes_of m s held.portfolio) k)
@@ -98,8 +99,8 @@ stage_of (opened a) = Open
 stage_of (issued o) = Issued
 stage_of (on_air w) = OnAir
 
--- A book shows what its log says: the stage, the state, the portfolio held; its windows are the number of notes, its totals the
--- sums of the noted bills.
+-- A book shows what its log says: where it stands and what it holds, as many windows as there are notes, and the bills of these
+-- added up.
 pub record Agrees (l : Log) (b : Book) : Type 0 where
   pub stage : stage_of b ≡ l.stage
   pub state : (account_of b).state ≡ l.state

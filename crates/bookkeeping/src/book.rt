@@ -98,14 +98,10 @@ impl Open {
     pub fn issue<P: Plant>(self, plant: &P, policy: &[u16]) -> Result<Issued, Refused<Open>>
         ensures done { IsOk result ↔ MayIssue (P.model plant.now) self policy.now }
         ensures order { IfOk result (λ book. book ≡ ordered (P.model plant.now) self policy.now) }
-        ensures refused {
-            (n p : ℕ) → IsRefused result n p ↔ IssueRefused (P.model plant.now) self policy.now n p
-        }
+        ensures refused { (n p : ℕ) → IsRefused result n p ↔ IssueRefused (P.model plant.now) self policy.now n p }
         ensures kept { IfErr result (λ r. r.book ≡ self) }
-        ensures past {
-            Continues (opened self) (issue_event (P.model plant.now) policy.now result)
-            (after_issue result)
-        }
+        ensures past { Continues (opened self) (issue_event (P.model plant.now) policy.now result)
+            (after_issue result) }
         ensures accounted { IsAccountedFor (after_issue result) }
     {
         match self.entry(plant, policy) {
@@ -147,9 +143,7 @@ impl Model for Issued {
 
     ghost view = { λ b. order b.state b.windows b.seconds b.cents b.portfolio b.bill };
 
-    ghost invariant = {
-        λ b. Lasting (issued (order b.state b.windows b.seconds b.cents b.portfolio b.bill))
-    };
+    ghost invariant = { λ b. Lasting (issued (order b.state b.windows b.seconds b.cents b.portfolio b.bill)) };
 }
 
 impl Issued {
@@ -230,9 +224,7 @@ impl Model for OnAir {
 
     ghost view = { λ b. airing b.state b.windows b.seconds b.cents b.portfolio };
 
-    ghost invariant = {
-        λ b. Lasting (on_air (airing b.state b.windows b.seconds b.cents b.portfolio))
-    };
+    ghost invariant = { λ b. Lasting (on_air (airing b.state b.windows b.seconds b.cents b.portfolio)) };
 }
 
 impl OnAir {
@@ -240,14 +232,10 @@ impl OnAir {
     pub fn report<P: Plant>(self, plant: &P, outcome: usize) -> Result<Open, Refused<OnAir>>
         ensures done { IsOk result ↔ MayReport (P.model plant.now) self outcome }
         ensures reported { IfOk result (Reported (P.model plant.now) self outcome) }
-        ensures refused {
-            (n p : ℕ) → IsRefused result n p ↔ ReportRefused (P.model plant.now) self outcome n p
-        }
+        ensures refused { (n p : ℕ) → IsRefused result n p ↔ ReportRefused (P.model plant.now) self outcome n p }
         ensures kept { IfErr result (λ r. r.book ≡ self) }
-        ensures past {
-            Continues (on_air self) (report_event (P.model plant.now) outcome result)
-            (after_report result)
-        }
+        ensures past { Continues (on_air self) (report_event (P.model plant.now) outcome result)
+            (after_report result) }
         ensures accounted { IsAccountedFor (after_report result) }
     {
         let portfolio = usize::from(self.portfolio);

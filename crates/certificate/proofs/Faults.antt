@@ -1,6 +1,6 @@
 -- The first fault, and tests of every number below a bound.
 use Rattle.std.proofs.Common.{◌≡◌, ℕ, zero, suc, ◌+◌, ◌<◌, Bool, true, false, ◌&&◌, eqb, List, map, length, get_or, Some, None, Option, ◌⊎◌, inl, inr, sym, refl, ap, ◌∙◌, subst, ⊎_elim, add-one, arith}
-use Rattle.std.specs.List.{list_all, range_with_len}
+use Rattle.std.specs.Option.{IsSome}
 use Rattle.std.proofs.lemmas.List.{get_or-map, length-map}
 use Rattle.std.proofs.lemmas.Bool.{cases_Bool, cases_eq, and_parts, and_from, and_right}
 use Rattle.interface.specs.Rows.{Row, zeros}
@@ -8,6 +8,10 @@ use Rattle.interface.specs.Tariffs.{Scale}
 use Rattle.lookahead.specs.Gains.{value_of}
 use Rattle.interface.specs.Plants.{Model}
 use Rattle.certificate.specs.Refusals.{or_else, first_fault, each, level}
+
+pub some_unless : {A : Type 0} (o : Option A) → (o ≡ None → ⊥) → IsSome o
+some_unless None h = absurd (h refl)
+some_unless (Some a) h = refl
 
 pub or_none : {A : Type 0} (x y : Option A) → or_else x y ≡ None → (x ≡ None) × (y ≡ None)
 or_none None y h = (refl, h)
@@ -50,18 +54,6 @@ module _ {A : Type 0} (f : ℕ → Option A) where
       (λ earlier. let found = first_at n a earlier in record { at = found.at; below = omega (arith, found.below); there = found.there; before = found.before })
       (λ last. record { at = n; below = omega arith; there = last.1; before = λ j l. none_below n j last.0 l }) (or_some (first_fault f n) (f n) a h)
 
-and_true : (a : Bool) → (a && true) ≡ a
-and_true true = refl
-and_true false = refl
-
-and_assoc : (a b c : Bool) → ((a && b) && c) ≡ (a && (b && c))
-and_assoc true b c = refl
-and_assoc false b c = refl
-
-each_same : (p q : ℕ → Bool) → ((k : ℕ) → p k ≡ q k) → (n : ℕ) → each p n ≡ each q n
-each_same p q h zero = refl
-each_same p q h (suc n) = ap (λ z. z && p n) (each_same p q h n) ∙ ap (λ z. each q n && z) (h n)
-
 module _ (p : ℕ → Bool) where
   pub each_at : (n k : ℕ) → each p n ≡ true → k < n → p k ≡ true
   each_at zero k h l = absurd (omega arith)
@@ -84,20 +76,6 @@ module _ (p : ℕ → Bool) where
   pub each_failed : (n : ℕ) → each p n ≡ false → (k : ℕ) × (p k ≡ false)
   each_failed zero h = let z : ◌≡◌ {A = ℕ} 0 1 = cc in absurd (omega arith)
   each_failed (suc n) h = ⊎_elim (λ before. (n, ap (λ z. z && p n) (sym before) ∙ h)) (λ before. each_failed n before) (cases_Bool (each p n))
-
--- the numbers below n, asked one after the other
-each_front : (p : ℕ → Bool) (n : ℕ) → each p (suc n) ≡ (p 0 && each (λ k. p (suc k)) n)
-each_front p zero = sym (and_true (p 0))
-each_front p (suc n) = ap (λ z. z && p (suc n)) (each_front p n) ∙ and_assoc (p 0) (each (λ k. p (suc k)) n) (p (suc n))
-
-all_each : (p : ℕ → Bool) (a n : ℕ) → list_all p (range_with_len a n) ≡ each (λ k. p (a + k)) n
-all_each p a zero = refl
-all_each p a (suc n) =
-    ap (λ z. p a && z) (all_each p (a + 1) n ∙ each_same (λ k. p (a + 1 + k)) (λ k. p (a + suc k)) (λ k. ap p (omega arith)) n)
-    ∙ ap (λ z. p z && each (λ k. p (a + suc k)) n) (omega arith) ∙ sym (each_front (λ k. p (a + k)) n)
-
-pub each_in_range : (p : ℕ → Bool) (n : ℕ) → list_all p (range_with_len 0 n) ≡ each p n
-each_in_range p n = all_each p 0 n ∙ each_same (λ k. p (0 + k)) p (λ k. ap p (omega arith)) n
 
 -- the value of a state is the row of its amount
 pub value_read : {A : Type 0} (row : A → Row) (t : Scale) (xs : List A) (s : ℕ) (x : A) → s < length xs → x ≡ get_or xs s x → value_of t (map row xs) s ≡ row x

@@ -1,6 +1,9 @@
 pub mod Claiming
 pub mod Extremes
 pub mod Faults
+pub mod Passing
 pub mod Reasons
 pub mod Refused
 pub mod Soundness
+pub mod Tight
+pub mod Verdicts

@@ -69,6 +69,21 @@ module _ (m : Model) (lawful : Lawful m) (t : Scale) (vs : List Row) (ps : List 
         high_holds = (passed (t.at_most (gain m t vs s (named ps s)) high) None (HighBroken s) second.1).0;
       }
 
+  pub low_each : (s : ℕ) → ((x : ℕ) → m.feasible s x ≡ true → AtMost t low (gain m t vs s x)) → each (low_test m t vs low s) m.portfolios ≡ true
+  low_each s holds = each_from (low_test m t vs low s) m.portfolios (λ x _. low_to (m.feasible s x) (t.at_most low (gain m t vs s x)) (holds x))
+
+  -- the tests of a state, one after the other
+  pub at_feasible : (s : ℕ) → m.feasible s (named ps s) ≡ true
+      → state_fault m t vs ps low high s ≡ cond (each (low_test m t vs low s) m.portfolios) (cond (t.at_most (gain m t vs s (named ps s)) high) None (Some (HighBroken s))) (Some (LowBroken s))
+  at_feasible s f = ap (λ z. cond z (cond (each (low_test m t vs low s) m.portfolios) (cond (t.at_most (gain m t vs s (named ps s)) high) None (Some (HighBroken s))) (Some (LowBroken s))) (Some (Infeasible s))) f
+
+  pub at_low : (s : ℕ) → m.feasible s (named ps s) ≡ true → each (low_test m t vs low s) m.portfolios ≡ true
+      → state_fault m t vs ps low high s ≡ cond (t.at_most (gain m t vs s (named ps s)) high) None (Some (HighBroken s))
+  at_low s f lows = at_feasible s f ∙ ap (λ z. cond z (cond (t.at_most (gain m t vs s (named ps s)) high) None (Some (HighBroken s))) (Some (LowBroken s))) lows
+
+  pub state_clear : (s : ℕ) → Holds m t vs ps low high s → state_fault m t vs ps low high s ≡ None
+  state_clear s h = at_low s h.feasible (low_each s h.low_holds) ∙ ap (λ z. cond z None (Some (HighBroken s))) h.high_holds
+
   pub sound_from : refusal m t vs ps low high ≡ None → Sound m t vs ps low high
   sound_from none =
       let one = passed (level m vs ps) _ WrongLength none in
@@ -94,10 +109,7 @@ module _ (m : Model) (lawful : Lawful m) (t : Scale) (vs : List Row) (ps : List 
   pub sound_to : Sound m t vs ps low high → refusal m t vs ps low high ≡ None
   sound_to sound =
       let tests : (s : ℕ) → s < m.states → state_fault m t vs ps low high s ≡ None = λ s l.
-      let lows = each_from (low_test m t vs low s) m.portfolios (λ x _. low_to (m.feasible s x) (t.at_most low (gain m t vs s x)) (sound.low_holds s x)) in
-      ap (λ z. cond z (cond (each (low_test m t vs low s) m.portfolios) (cond (t.at_most (gain m t vs s (named ps s)) high) None (Some (HighBroken s))) (Some (LowBroken s))) (Some (Infeasible s))) (sound.feasible s l)
-      ∙ ap (λ z. cond z (cond (t.at_most (gain m t vs s (named ps s)) high) None (Some (HighBroken s))) (Some (LowBroken s))) lows
-      ∙ ap (λ z. cond z None (Some (HighBroken s))) (sound.high_holds s l) in
+      state_clear s (record { feasible = sound.feasible s l; low_holds = sound.low_holds s; high_holds = sound.high_holds s l }) in
       let near = subst (λ n. first_fault (value_fault t vs) n ≡ None) sound.values.long (near_to t vs sound.values.near) in
       let states = none_from (state_fault m t vs ps low high) m.states tests in
       cond-true (level m vs ps) _ _ (and_from (eqb (length vs) m.states) (eqb (length ps) m.states) (eq-eqb (length vs) m.states sound.values.long) (eq-eqb (length ps) m.states sound.policy))

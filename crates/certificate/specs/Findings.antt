@@ -5,7 +5,7 @@ use Rattle.interface.specs.Rows.{Row}
 use Rattle.interface.specs.Tariffs.{Scale}
 use Rattle.certificate.specs.declared.finding.Finding.{Finding}
 use Rattle.certificate.specs.declared.refusal.Refusal.{Refusal}
-use Rattle.certificate.specs.Certificates.{Sound, Top, Bottom}
+use Rattle.certificate.specs.Certificates.{Top, Bottom}
 use Rattle.certificate.specs.Refusals.{refusal}
 
 -- The claims as they were given, the first greatest value and the first least.
@@ -19,8 +19,3 @@ pub record Finds {A : Type 0} (row : A → Row) (m : Model) (t : Scale) (vs : Li
 abbrev pub Verdict : {A : Type 0} → (A → Row) → Model → Scale → List Row → List ℕ → A → A → Result (Finding A) Refusal → Type 0
 Verdict row m t vs ps low high (Ok f) = (refusal m t vs ps (row low) (row high) ≡ None) × Finds row m t vs low high f
 Verdict row m t vs ps low high (Err e) = refusal m t vs ps (row low) (row high) ≡ Some e
-
--- The law of it: exactly the sound certificates are accepted.
-abbrev pub ExactlySound : {A : Type 0} → (A → Row) → Model → Scale → List Row → List ℕ → A → A → Result (Finding A) Refusal → Type 0
-ExactlySound row m t vs ps low high (Ok f) = Sound m t vs ps (row low) (row high)
-ExactlySound row m t vs ps low high (Err e) = Sound m t vs ps (row low) (row high) → ⊥

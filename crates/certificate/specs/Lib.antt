@@ -1,6 +1,9 @@
 pub mod Certificates
 pub mod Claims
+pub mod ExactClaims
 pub mod Findings
 pub mod Reasons
+pub mod RecipeRefusedAs
 pub mod Recipes
+pub mod RefusedAs
 pub mod Refusals

@@ -1,12 +1,10 @@
--- Why a certificate or a recipe is refused, by case: what fails at the place that is told, and what holds of all before it.
-use Rattle.std.specs.Prelude.{◌≡◌, ℕ, ◌<◌, ◌≤◌, true, false, ◌⊎◌, List, length}
+-- What fails where a certificate or a recipe is refused, and what holds of all before it.
+use Rattle.std.specs.Prelude.{◌≡◌, ℕ, ◌<◌, ◌≤◌, true, false, List, length}
 use Rattle.interface.specs.Plants.{Model, named}
 use Rattle.interface.specs.Rows.{Row, reach}
 use Rattle.interface.specs.Tariffs.{Scale, AtMost}
 use Rattle.interface.specs.Limits.{most_value, most_claim}
 use Rattle.lookahead.specs.Gains.{value_of, gain, Within}
-use Rattle.certificate.specs.declared.refusal.Refusal.{Refusal}
-use Rattle.certificate.specs.declared.refusal.Refusal.TheVariants.{WrongLength, BeyondReach, Infeasible, LowBroken, HighBroken}
 
 -- Both tables have an entry for each state.
 pub record Level (m : Model) (vs : List Row) (ps : List ℕ) : Type 0 where
@@ -23,11 +21,6 @@ pub record FarValue (m : Model) (t : Scale) (vs : List Row) (s : ℕ) : Type 0 w
   pub state : s < m.states
   pub near : (k : ℕ) → k < s → reach (value_of t vs k) ≤ most_value
   pub far : most_value < reach (value_of t vs s)
-
--- Not both claims are within reach. It is told at the number of states.
-pub record FarClaim (m : Model) (low high : Row) (s : ℕ) : Type 0 where
-  pub place : s ≡ m.states
-  pub far : ClaimsNear low high → ⊥
 
 -- The claims hold of the state s and the policy's portfolio for it.
 pub record Holds (m : Model) (t : Scale) (vs : List Row) (ps : List ℕ) (low high : Row) (s : ℕ) : Type 0 where
@@ -56,15 +49,6 @@ pub record HighFails (m : Model) (t : Scale) (vs : List Row) (ps : List ℕ) (lo
   pub low_holds : (x : ℕ) → m.feasible s x ≡ true → AtMost t low (gain m t vs s x)
   pub above : t.at_most (gain m t vs s (named ps s)) high ≡ false
 
--- Why a certificate is refused: by its lengths, by a claim, by the first value beyond reach, or by the first state of which
--- the claims do not hold.
-abbrev pub Reason : Model → Scale → List Row → List ℕ → Row → Row → Refusal → Type 0
-Reason m t vs ps low high WrongLength = Level m vs ps → ⊥
-Reason m t vs ps low high (BeyondReach s) = Level m vs ps × (FarClaim m low high s ⊎ (ClaimsNear low high × FarValue m t vs s))
-Reason m t vs ps low high (Infeasible s) = Before m t vs ps low high s × (m.feasible s (named ps s) ≡ false)
-Reason m t vs ps low high (LowBroken s) = Before m t vs ps low high s × LowFails m t vs ps low s
-Reason m t vs ps low high (HighBroken s) = Before m t vs ps low high s × HighFails m t vs ps low high s
-
 -- Lengths and values are as they should be, and s is the first state in which the policy's portfolio is not feasible.
 pub record FirstInfeasible (m : Model) (vs : List Row) (ps : List ℕ) (s : ℕ) : Type 0 where
   pub values : Within m vs
@@ -72,12 +56,3 @@ pub record FirstInfeasible (m : Model) (vs : List Row) (ps : List ℕ) (s : ℕ)
   pub state : s < m.states
   pub feasible : (k : ℕ) → k < s → m.feasible k (named ps k) ≡ true
   pub infeasible : m.feasible s (named ps s) ≡ false
-
--- Why there is no recipe: by a length, by the first value beyond reach, or by the first infeasible entry of the policy.
--- There are no claims yet that could be broken.
-abbrev pub RecipeReason : Model → Scale → List Row → List ℕ → Refusal → Type 0
-RecipeReason m t vs ps WrongLength = Level m vs ps → ⊥
-RecipeReason m t vs ps (BeyondReach s) = Level m vs ps × FarValue m t vs s
-RecipeReason m t vs ps (Infeasible s) = FirstInfeasible m vs ps s
-RecipeReason m t vs ps (LowBroken s) = ⊥
-RecipeReason m t vs ps (HighBroken s) = ⊥

@@ -1,29 +1,41 @@
 // The check of a certificate.
-ghost use Rattle.std.specs.Prelude.{◌≡◌, ℕ, List, ◌&&◌, map, length, ◌==◌, nat_le, IfErr};
+ghost use Rattle.std.specs.Prelude.{◌≡◌, ◌↔◌, ℕ, List, Some, ◌&&◌, map, length, ◌==◌, nat_le, IsOk, IfErr};
 ghost use Rattle.std.specs.Result.{result_err};
-ghost use Rattle.interface.specs.Rows.{reach};
+ghost use Rattle.interface.specs.Rows.{Row, reach};
 ghost use Rattle.interface.specs.Limits.{most_claim};
-ghost use Rattle.interface.specs.Plants.{named};
-ghost use Rattle.certificate.specs.Findings.{Verdict, ExactlySound};
-ghost use Rattle.certificate.specs.Reasons.{Reason};
-ghost use Rattle.certificate.specs.Refusals.{refusal, first_fault, value_fault, each, low_test, state_fault};
+ghost use Rattle.interface.specs.Plants.{bill_of, named};
+ghost use Rattle.lookahead.specs.Gains.{gain};
+ghost use Rattle.certificate.specs.Certificates.{Sound};
+ghost use Rattle.certificate.specs.ExactClaims.{NoTighter};
+ghost use Rattle.certificate.specs.Findings.{Verdict};
+ghost use Rattle.certificate.specs.Reasons.{ClaimsNear};
+ghost use Rattle.certificate.specs.Recipes.{Lowest, Highest, Fitting};
+ghost use Rattle.certificate.specs.RefusedAs.{RefusedAs, IsRefused};
+ghost use Rattle.certificate.specs.Refusals.{refusal, first_fault, value_fault, state_fault, number_of, place_of};
 
 use crate::finding;
 use crate::finding::Finding;
 use crate::refusal::Refusal;
 use interface::claims::Claims;
 use interface::limits::{MOST_CLAIM, MOST_VALUE};
-use interface::plant::Plant;
+use interface::plant::{Bill, Plant};
 use interface::tariff::Tariff;
 use lookahead::best::Aim;
 use lookahead::table::ValueTable;
 use lookahead::valued::ValuedPlant;
 
-// Refused by the first value beyond reach. By a `for` over the lent table with its index, which is the place of the refusal.
-pub(crate) fn values_near<T: Tariff>(tariff: &T, values: &[T::Amount]) -> Result<(), Refusal>
-    ensures { result_err result ≡ first_fault (value_fault (T.scale tariff.now) (map T.Tariff.row values.now)) (length values.now) }
+// Refused by the first value beyond reach. The index is the state, and the place of the refusal.
+pub(crate) fn values_near<T: Tariff>(
+    tariff: &T,
+    table: &ValueTable<T::Amount>,
+) -> Result<(), Refusal>
+    ensures {
+        result_err result
+        ≡ first_fault (value_fault (T.scale tariff.now) (map T.Tariff.row table.now.amounts.now))
+            (length table.now.amounts.now)
+    }
 {
-    for (s, value) in values.iter().enumerate() {
+    for (s, value) in table.amounts.iter().enumerate() {
         if tariff.reach(*value) > MOST_VALUE {
             return Err(Refusal::BeyondReach(s));
         }
@@ -31,43 +43,56 @@ pub(crate) fn values_near<T: Tariff>(tariff: &T, values: &[T::Amount]) -> Result
     Ok(())
 }
 
-// Whether low is at most the gain of a portfolio, if that is feasible.
-fn low_holds_at<P: Plant, T: Tariff>(
+// The gain of a feasible pair whose bill is at hand.
+fn gain_of<P: Plant, T: Tariff>(
     valued: &ValuedPlant<P, T>,
-    low: T::Amount,
+    bill: Bill,
     state: usize,
     portfolio: usize,
-) -> bool
-    ensures { result ≡ low_test (P.model valued.now.plant.now) (T.scale valued.now.tariff.now) (map T.Tariff.row valued.now.table.amounts.now) (T.Tariff.row low) state portfolio }
+) -> T::Amount
+    requires { bill_of (P.model valued.now.plant.now) state portfolio ≡ Some bill }
+    ensures {
+        T.Tariff.row result ≡ gain (P.model valued.now.plant.now) (T.scale valued.now.tariff.now)
+            (map T.Tariff.row valued.now.table.amounts.now) state portfolio
+    }
 {
-    valued
-        .gain(state, portfolio)
-        .is_none_or(|gain| valued.tariff.at_most(low, gain))
+    valued.gain_of(bill, state, portfolio).unwrap()
 }
 
-// Whether no feasible portfolio of a state gains less than low.
-fn low_holds<P: Plant, T: Tariff>(valued: &ValuedPlant<P, T>, low: T::Amount, state: usize) -> bool
-    ensures { result ≡ each (low_test (P.model valued.now.plant.now) (T.scale valued.now.tariff.now) (map T.Tariff.row valued.now.table.amounts.now) (T.Tariff.row low) state) (P.model valued.now.plant.now).portfolios }
-{
-    (0..valued.plant.portfolios()).all(|x| low_holds_at(valued, low, state, x))
-}
-
-// The tests of a state, for which the policy names the portfolio.
+// The tests of a state, for which the policy names the portfolio. Whether a pair is feasible is asked first, and of a feasible
+// pair alone its bill and its outcomes, each once: the gain of the policy's portfolio is kept as it comes by.
 fn state_holds<P: Plant, T: Tariff>(
     valued: &ValuedPlant<P, T>,
-    claims: Claims<T::Amount>,
+    claims: &Claims<T::Amount>,
     state: usize,
     portfolio: usize,
 ) -> Result<(), Refusal>
-    ensures { (policy : List ℕ) → named policy state ≡ portfolio → result_err result ≡ state_fault (P.model valued.now.plant.now) (T.scale valued.now.tariff.now) (map T.Tariff.row valued.now.table.amounts.now) policy (T.Tariff.row claims.low) (T.Tariff.row claims.high) state }
-{
-    let gain = valued
-        .gain(state, portfolio)
-        .ok_or(Refusal::Infeasible(state))?;
-    if !low_holds(valued, claims.low, state) {
-        return Err(Refusal::LowBroken(state));
+    ensures {
+        (policy : List ℕ) → named policy state ≡ portfolio
+        → result_err result
+            ≡ state_fault (P.model valued.now.plant.now) (T.scale valued.now.tariff.now)
+                (map T.Tariff.row valued.now.table.amounts.now) policy
+                (T.Tariff.row claims.now.low) (T.Tariff.row claims.now.high) state
     }
-    if !valued.tariff.at_most(gain, claims.high) {
+{
+    if !valued.plant.feasible(state, portfolio) {
+        return Err(Refusal::Infeasible(state));
+    }
+    let mut own = None;
+    for x in 0..valued.plant.portfolios() {
+        if valued.plant.feasible(state, x) {
+            if let Some(bill) = valued.plant.bill(state, x) {
+                let gain = gain_of(valued, bill, state, x);
+                if !valued.tariff.at_most(claims.low, gain) {
+                    return Err(Refusal::LowBroken(state));
+                }
+                if x == portfolio {
+                    own = Some(gain);
+                }
+            }
+        }
+    }
+    if !valued.tariff.at_most(own.unwrap(), claims.high) {
         return Err(Refusal::HighBroken(state));
     }
     Ok(())
@@ -77,9 +102,16 @@ fn state_holds<P: Plant, T: Tariff>(
 fn states_hold<P: Plant, T: Tariff>(
     valued: &ValuedPlant<P, T>,
     policy: &[u16],
-    claims: Claims<T::Amount>,
+    claims: &Claims<T::Amount>,
 ) -> Result<(), Refusal>
-    ensures { result_err result ≡ first_fault (state_fault (P.model valued.now.plant.now) (T.scale valued.now.tariff.now) (map T.Tariff.row valued.now.table.amounts.now) policy.now (T.Tariff.row claims.low) (T.Tariff.row claims.high)) (length policy.now) }
+    ensures {
+        result_err result
+        ≡ first_fault
+            (state_fault (P.model valued.now.plant.now) (T.scale valued.now.tariff.now)
+                (map T.Tariff.row valued.now.table.amounts.now) policy.now
+                (T.Tariff.row claims.now.low) (T.Tariff.row claims.now.high))
+            (length policy.now)
+    }
 {
     for (state, portfolio) in policy.iter().enumerate() {
         state_holds(valued, claims, state, usize::from(*portfolio))?;
@@ -88,53 +120,56 @@ fn states_hold<P: Plant, T: Tariff>(
 }
 
 // Whether both tables have an entry for each state.
-pub(crate) fn level<P: Plant, A>(plant: &P, values: &[A], policy: &[u16]) -> bool
-    ensures { result ≡ (length values.now == (P.model plant.now).states && length policy.now == (P.model plant.now).states) }
+pub(crate) fn level<P: Plant, A>(plant: &P, table: &ValueTable<A>, policy: &[u16]) -> bool
+    ensures {
+        result ≡ (length table.now.amounts.now == (P.model plant.now).states
+            && length policy.now == (P.model plant.now).states)
+    }
 {
     let states = plant.states();
-    values.len() == states && policy.len() == states
+    table.amounts.len() == states && policy.len() == states
 }
 
 // Whether both claims are within their reach.
-fn claims_near<T: Tariff>(tariff: &T, claims: Claims<T::Amount>) -> bool
-    ensures { result ≡ (nat_le (reach (T.Tariff.row claims.low)) most_claim && nat_le (reach (T.Tariff.row claims.high)) most_claim) }
+fn claims_near<T: Tariff>(tariff: &T, claims: &Claims<T::Amount>) -> bool
+    ensures {
+        result ≡ (nat_le (reach (T.Tariff.row claims.now.low)) most_claim
+            && nat_le (reach (T.Tariff.row claims.now.high)) most_claim)
+    }
 {
     tariff.reach(claims.low) <= MOST_CLAIM && tariff.reach(claims.high) <= MOST_CLAIM
 }
 
-// Refused by the first test of a certificate that fails. Values and policy are the caller's, each lent as a slice: as one
-// view of both they would be level only after the first test here, and a finding is of the values alone.
+// Refused by the first test of a certificate that fails.
 fn certificate_holds<P: Plant, T: Tariff>(
     plant: &P,
     tariff: &T,
-    values: &[T::Amount],
+    table: &ValueTable<T::Amount>,
     policy: &[u16],
-    claims: Claims<T::Amount>,
+    claims: &Claims<T::Amount>,
 ) -> Result<(), Refusal>
-    ensures { result_err result ≡ refusal (P.model plant.now) (T.scale tariff.now) (map T.Tariff.row values.now) policy.now (T.Tariff.row claims.low) (T.Tariff.row claims.high) }
+    ensures {
+        result_err result
+        ≡ refusal (P.model plant.now) (T.scale tariff.now) (map T.Tariff.row table.now.amounts.now)
+            policy.now (T.Tariff.row claims.now.low) (T.Tariff.row claims.now.high)
+    }
 {
-    if !level(plant, values, policy) {
+    if !level(plant, table, policy) {
         return Err(Refusal::WrongLength);
     }
     if !claims_near(tariff, claims) {
         return Err(Refusal::BeyondReach(plant.states()));
     }
-    values_near(tariff, values)?;
-    // As a literal, here where the reach is known: a constructor of ValuedPlant would have to ask for it.
-    let table = ValueTable { amounts: values };
-    states_hold(
-        &ValuedPlant {
-            plant,
-            tariff,
-            table,
-        },
-        policy,
-        claims,
-    )
+    values_near(tariff, table)?;
+    let valued = ValuedPlant {
+        plant,
+        tariff,
+        table: *table,
+    };
+    states_hold(&valued, policy, claims)
 }
 
-// Accepts exactly the sound certificates: a value table, a policy, and the claims low and high. The tables are lent as to
-// certificate_holds.
+/// Accepts exactly the sound certificates: a value table, a policy, and the claims low and high.
 pub fn check<P: Plant, T: Tariff>(
     plant: &P,
     tariff: &T,
@@ -142,14 +177,45 @@ pub fn check<P: Plant, T: Tariff>(
     policy: &[u16],
     claims: Claims<T::Amount>,
 ) -> Result<Finding<T::Amount>, Refusal>
-    ensures verdict { Verdict T.Tariff.row (P.model plant.now) (T.scale tariff.now) (map T.Tariff.row values.now) policy.now claims.low claims.high result }
-    ensures exact { ExactlySound T.Tariff.row (P.model plant.now) (T.scale tariff.now) (map T.Tariff.row values.now) policy.now claims.low claims.high result }
-    ensures reason { IfErr result (Reason (P.model plant.now) (T.scale tariff.now) (map T.Tariff.row values.now) policy.now (T.Tariff.row claims.low) (T.Tariff.row claims.high)) }
+    ensures verdict {
+        Verdict T.Tariff.row (P.model plant.now) (T.scale tariff.now) (map T.Tariff.row values.now)
+            policy.now claims.low claims.high result
+    }
+    // accepted exactly when sound
+    ensures exact {
+        IsOk result
+        ↔ Sound (P.model plant.now) (T.scale tariff.now) (map T.Tariff.row values.now) policy.now
+            (T.Tariff.row claims.low) (T.Tariff.row claims.high)
+    }
+    // what is refused is refused by a rule that is broken, at its place
+    ensures refused {
+        IfErr result (λ e.
+            RefusedAs (P.model plant.now) (T.scale tariff.now) (map T.Tariff.row values.now)
+                policy.now (T.Tariff.row claims.low) (T.Tariff.row claims.high)
+                (number_of e) (place_of e))
+    }
+    // refused by a rule at a place exactly when that rule is broken there, and none before it
+    ensures refused_exactly {
+        (n p : ℕ) → IsRefused result n p
+        ↔ RefusedAs (P.model plant.now) (T.scale tariff.now) (map T.Tariff.row values.now)
+            policy.now (T.Tariff.row claims.low) (T.Tariff.row claims.high) n p
+    }
+    // where the least and the greatest gain are known: accepted exactly when the claims are no tighter
+    ensures no_tighter {
+        (l h : Row)
+        → Fitting (P.model plant.now) (map T.Tariff.row values.now) policy.now
+        → ClaimsNear (T.Tariff.row claims.low) (T.Tariff.row claims.high)
+        → Lowest (P.model plant.now) (T.scale tariff.now) (map T.Tariff.row values.now) l
+        → Highest (P.model plant.now) (T.scale tariff.now) (map T.Tariff.row values.now) policy.now h
+        → (IsOk result
+            ↔ NoTighter (T.scale tariff.now) (T.Tariff.row claims.low) (T.Tariff.row claims.high) l h)
+    }
 {
-    certificate_holds(plant, tariff, values, policy, claims)?;
-    // A plant has a state, so a table that holds has a value: no absence is refused here.
-    let top = finding::extreme(Aim::Greatest, tariff, values).ok_or(Refusal::WrongLength)?;
-    let bottom = finding::extreme(Aim::Least, tariff, values).ok_or(Refusal::WrongLength)?;
+    let table = ValueTable::new(values);
+    certificate_holds(plant, tariff, &table, policy, &claims)?;
+    // A plant has a state, so a table that holds has a value.
+    let top = finding::extreme(Aim::Greatest, tariff, &table).unwrap();
+    let bottom = finding::extreme(Aim::Least, tariff, &table).unwrap();
     Ok(Finding {
         low: claims.low,
         high: claims.high,

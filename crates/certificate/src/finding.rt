@@ -7,9 +7,9 @@ ghost use Rattle.lookahead.specs.Choices.{pick, good};
 
 use interface::tariff::Tariff;
 use lookahead::best::{Aim, Choice};
+use lookahead::table::ValueTable;
 
-// The claims of the certificate, its first greatest value and its first least. They are four single amounts, as a caller
-// reads them: low and high are the claims that came in.
+/// The claims of the certificate as they came in, its first greatest value and its first least.
 #[derive(Clone, Copy, PartialEq, Eq, Debug)]
 pub struct Finding<A> {
     pub low: A,
@@ -22,9 +22,13 @@ pub struct Finding<A> {
 pub(crate) fn extreme<T: Tariff>(
     aim: Aim,
     tariff: &T,
-    values: &[T::Amount],
+    table: &ValueTable<T::Amount>,
 ) -> Option<Choice<T::Amount>>
-    ensures { option_map (pick T.Tariff.row) result ≡ first_best (good aim (T.scale tariff.now)) (slice_get (map T.Tariff.row values.now)) (length values.now) }
+    ensures {
+        option_map (pick T.Tariff.row) result
+        ≡ first_best (good aim (T.scale tariff.now))
+            (slice_get (map T.Tariff.row table.now.amounts.now)) (length table.now.amounts.now)
+    }
 {
-    aim.first_best(tariff, values.len(), |s| values.get(s).copied())
+    aim.first_best(tariff, table.amounts.len(), |s| table.value(s))
 }

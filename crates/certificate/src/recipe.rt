@@ -1,13 +1,16 @@
 // The recipe: the claims that are made of a value table and a policy.
-ghost use Rattle.std.specs.Prelude.{◌≡◌, ◌<◌, map, length, IfErr};
+ghost use Rattle.std.specs.Prelude.{◌≡◌, ◌↔◌, ℕ, ◌<◌, map, length, IsOk, IfOk, IfErr};
 ghost use Rattle.std.specs.Option.{option_map};
 ghost use Rattle.std.specs.Result.{result_err};
 ghost use Rattle.lookahead.specs.Best.{first_best, cheaper, dearer};
 ghost use Rattle.lookahead.specs.Choices.{pick};
-ghost use Rattle.certificate.specs.Claims.{Recipe, ExactlyFitting};
-ghost use Rattle.certificate.specs.Reasons.{RecipeReason};
-ghost use Rattle.certificate.specs.Recipes.{state_low, policy_gain, policy_fault, recipe_refusal};
-ghost use Rattle.certificate.specs.Refusals.{first_fault};
+ghost use Rattle.certificate.specs.Certificates.{Sound};
+ghost use Rattle.certificate.specs.Claims.{Recipe};
+ghost use Rattle.certificate.specs.ExactClaims.{Tightest};
+ghost use Rattle.certificate.specs.RecipeRefusedAs.{RecipeRefusedAs};
+ghost use Rattle.certificate.specs.Recipes.{Fitting, state_low, policy_gain, policy_fault, recipe_refusal};
+ghost use Rattle.certificate.specs.RefusedAs.{IsRefused};
+ghost use Rattle.certificate.specs.Refusals.{first_fault, number_of, place_of};
 
 use crate::check::{level, values_near};
 use crate::refusal::Refusal;
@@ -32,14 +35,24 @@ fn policy_holds<P: Plant>(plant: &P, policy: &[u16]) -> Result<(), Refusal>
 
 // The least gain of a state, absent where no portfolio is feasible.
 fn state_low<P: Plant, T: Tariff>(valued: &ValuedPlant<P, T>, state: usize) -> Option<T::Amount>
-    ensures { option_map T.Tariff.row result ≡ state_low (P.model valued.now.plant.now) (T.scale valued.now.tariff.now) (map T.Tariff.row valued.now.table.amounts.now) state }
+    ensures {
+        option_map T.Tariff.row result
+        ≡ state_low (P.model valued.now.plant.now) (T.scale valued.now.tariff.now)
+            (map T.Tariff.row valued.now.table.amounts.now) state
+    }
 {
     valued.least_gain(state).map(|choice| choice.amount)
 }
 
 // The least gain of all, the first by state and then by portfolio.
 fn lowest<P: Plant, T: Tariff>(valued: &ValuedPlant<P, T>) -> Option<Choice<T::Amount>>
-    ensures { option_map (pick T.Tariff.row) result ≡ first_best (cheaper (T.scale valued.now.tariff.now)) (state_low (P.model valued.now.plant.now) (T.scale valued.now.tariff.now) (map T.Tariff.row valued.now.table.amounts.now)) (length valued.now.table.amounts.now) }
+    ensures {
+        option_map (pick T.Tariff.row) result
+        ≡ first_best (cheaper (T.scale valued.now.tariff.now))
+            (state_low (P.model valued.now.plant.now) (T.scale valued.now.tariff.now)
+                (map T.Tariff.row valued.now.table.amounts.now))
+            (length valued.now.table.amounts.now)
+    }
 {
     let states = valued.table.amounts.len();
     Aim::Least.first_best(valued.tariff, states, |state| state_low(valued, state))
@@ -51,7 +64,12 @@ fn policy_gain<P: Plant, T: Tariff>(
     policy: &[u16],
     state: usize,
 ) -> Option<T::Amount>
-    ensures { state < length policy.now → option_map T.Tariff.row result ≡ policy_gain (P.model valued.now.plant.now) (T.scale valued.now.tariff.now) (map T.Tariff.row valued.now.table.amounts.now) policy.now state }
+    ensures {
+        state < length policy.now
+        → option_map T.Tariff.row result
+            ≡ policy_gain (P.model valued.now.plant.now) (T.scale valued.now.tariff.now)
+                (map T.Tariff.row valued.now.table.amounts.now) policy.now state
+    }
 {
     let portfolio = policy.get(state).copied()?;
     valued.gain(state, usize::from(portfolio))
@@ -62,7 +80,13 @@ fn highest<P: Plant, T: Tariff>(
     valued: &ValuedPlant<P, T>,
     policy: &[u16],
 ) -> Option<Choice<T::Amount>>
-    ensures { option_map (pick T.Tariff.row) result ≡ first_best (dearer (T.scale valued.now.tariff.now)) (policy_gain (P.model valued.now.plant.now) (T.scale valued.now.tariff.now) (map T.Tariff.row valued.now.table.amounts.now) policy.now) (length policy.now) }
+    ensures {
+        option_map (pick T.Tariff.row) result
+        ≡ first_best (dearer (T.scale valued.now.tariff.now))
+            (policy_gain (P.model valued.now.plant.now) (T.scale valued.now.tariff.now)
+                (map T.Tariff.row valued.now.table.amounts.now) policy.now)
+            (length policy.now)
+    }
 {
     Aim::Greatest.first_best(
         valued.tariff,
@@ -71,44 +95,76 @@ fn highest<P: Plant, T: Tariff>(
     )
 }
 
-// Refused by the first test of a value table and a policy that fails. The tables are lent as to the check.
+// Refused by the first test of a value table and a policy that fails.
 fn inputs_hold<P: Plant, T: Tariff>(
     plant: &P,
     tariff: &T,
-    values: &[T::Amount],
+    table: &ValueTable<T::Amount>,
     policy: &[u16],
 ) -> Result<(), Refusal>
-    ensures { result_err result ≡ recipe_refusal (P.model plant.now) (T.scale tariff.now) (map T.Tariff.row values.now) policy.now }
+    ensures {
+        result_err result ≡ recipe_refusal (P.model plant.now) (T.scale tariff.now)
+            (map T.Tariff.row table.now.amounts.now) policy.now
+    }
 {
-    if !level(plant, values, policy) {
+    if !level(plant, table, policy) {
         return Err(Refusal::WrongLength);
     }
-    values_near(tariff, values)?;
+    values_near(tariff, table)?;
     policy_holds(plant, policy)
 }
 
-// The least gain of all feasible portfolios and the greatest of the policy's.
+/// The claims that a value table and a policy allow: the least gain of all feasible portfolios and the
+/// greatest of the policy's.
 pub fn recipe<P: Plant, T: Tariff>(
     plant: &P,
     tariff: &T,
     values: &[T::Amount],
     policy: &[u16],
 ) -> Result<Claims<T::Amount>, Refusal>
-    ensures answer { Recipe T.Tariff.row (P.model plant.now) (T.scale tariff.now) (map T.Tariff.row values.now) policy.now result }
-    ensures exact { ExactlyFitting (P.model plant.now) (map T.Tariff.row values.now) policy.now result }
-    ensures reason { IfErr result (RecipeReason (P.model plant.now) (T.scale tariff.now) (map T.Tariff.row values.now) policy.now) }
+    ensures answer {
+        Recipe T.Tariff.row (P.model plant.now) (T.scale tariff.now) (map T.Tariff.row values.now)
+            policy.now result
+    }
+    // there is a recipe exactly when the tables fit
+    ensures exact {
+        IsOk result ↔ Fitting (P.model plant.now) (map T.Tariff.row values.now) policy.now
+    }
+    // what is refused is refused by a rule that is broken, at its place
+    ensures refused {
+        IfErr result (λ e.
+            RecipeRefusedAs (P.model plant.now) (T.scale tariff.now) (map T.Tariff.row values.now)
+                policy.now (number_of e) (place_of e))
+    }
+    // refused by a rule at a place exactly when that rule is broken there, and none before it
+    ensures refused_exactly {
+        (n p : ℕ) → IsRefused result n p
+        ↔ RecipeRefusedAs (P.model plant.now) (T.scale tariff.now) (map T.Tariff.row values.now)
+            policy.now n p
+    }
+    // its own claims make a sound certificate
+    ensures sound {
+        IfOk result (λ c.
+            Sound (P.model plant.now) (T.scale tariff.now) (map T.Tariff.row values.now) policy.now
+                (T.Tariff.row c.low) (T.Tariff.row c.high))
+    }
+    // and of all claims exactly those that are no tighter
+    ensures tightest {
+        IfOk result (λ c.
+            Tightest (P.model plant.now) (T.scale tariff.now) (map T.Tariff.row values.now)
+                policy.now (T.Tariff.row c.low) (T.Tariff.row c.high))
+    }
 {
-    inputs_hold(plant, tariff, values, policy)?;
-    // As a literal, as in the check: the reach is known here.
-    let table = ValueTable { amounts: values };
+    let table = ValueTable::new(values);
+    inputs_hold(plant, tariff, &table, policy)?;
     let valued = ValuedPlant {
         plant,
         tariff,
         table,
     };
-    // A plant has a state, and each of its states a feasible portfolio: no absence is refused here.
-    let low = lowest(&valued).ok_or(Refusal::WrongLength)?;
-    let high = highest(&valued, policy).ok_or(Refusal::WrongLength)?;
+    // A plant has a state, and each of its states a feasible portfolio.
+    let low = lowest(&valued).unwrap();
+    let high = highest(&valued, policy).unwrap();
     Ok(Claims {
         low: low.amount,
         high: high.amount,

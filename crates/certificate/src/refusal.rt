@@ -1,23 +1,24 @@
 ghost use Rattle.std.specs.Prelude.{◌≡◌};
 ghost use Rattle.certificate.specs.Refusals.{number_of, place_of};
 
-// Why a certificate is refused, with the place.
+/// Why a certificate is refused, with the place.
 #[derive(Clone, Copy, PartialEq, Eq, Debug)]
 pub enum Refusal {
-    // A table's length is not the number of states.
+    /// A table's length is not the number of states.
     WrongLength,
-    // A value, or a claim at the number of states, is beyond its reach.
+    /// A value, or a claim at the number of states, is beyond its reach.
     BeyondReach(usize),
-    // The policy's entry is not feasible.
+    /// The policy's entry is not feasible.
     Infeasible(usize),
-    // Low is not at most the gain of some feasible portfolio.
+    /// Low is not at most the gain of some feasible portfolio.
     LowBroken(usize),
-    // The gain of the policy's portfolio is not at most high.
+    /// The gain of the policy's portfolio is not at most high.
     HighBroken(usize),
 }
 
 // Two numbers of one refusal, here as in the other crates: as `From` they would be told apart only by the type that is wanted.
 impl Refusal {
+    /// The number of the rule that is broken.
     pub fn number(self) -> u32
         ensures { result ≡ number_of self }
     {
@@ -30,6 +31,7 @@ impl Refusal {
         }
     }
 
+    /// Where it is broken: a state, the number of states for a claim, 0 for a length.
     pub fn place(self) -> usize
         ensures { result ≡ place_of self }
     {

@@ -1,5 +1,5 @@
 -- How far rows reach, and that no step of a look-ahead or a gain is absent under a table within reach.
-use Rattle.std.proofs.Common.{◌≡◌, ℕ, zero, suc, ◌+◌, ◌*◌, ◌<◌, ◌≤◌, max, Bool, true, false, cond, List, [], ◌∷◌, map, length, get_or, ℤ, pos, negsuc, ◌+ℤ◌, ◌*ℤ◌, neg_ℤ, nat_abs, Some, None, Option, sym, refl, ap, ◌∙◌, subst, arith}
+use Rattle.std.proofs.Common.{◌≡◌, ℕ, zero, suc, ◌+◌, ◌*◌, ◌<◌, ◌≤◌, max, Bool, true, false, cond, List, [], ◌∷◌, map, length, get_or, ℤ, pos, negsuc, ◌+ℤ◌, ◌-ℤ◌, ◌*ℤ◌, neg_ℤ, nat_abs, Some, None, Option, sym, refl, ap, ◌∙◌, subst, arith}
 use lib.IntN.{+ℤ_assoc, +ℤ_idr}
 use Rattle.std.proofs.lemmas.Nat.{mul-le}
 use Rattle.std.proofs.lemmas.Int.{ints}
@@ -8,11 +8,11 @@ use Rattle.std.specs.List.{slice_get}
 use Rattle.interface.specs.declared.plant.Bill.{Bill}
 use Rattle.interface.specs.declared.plant.Outcome.{Outcome}
 use Rattle.interface.specs.Limits.{whole, most_reach, most_factor, most_price, most_value}
-use Rattle.interface.specs.Plants.{Model, Lawful, LawfulBill, weights, Inside}
+use Rattle.interface.specs.Plants.{Model, Lawful, LawfulBill, weights, Inside, bill_of, outcomes_of}
 use Rattle.interface.specs.Rows.{Row, zeros, plus, minus, times, reach}
 use Rattle.interface.specs.Tariffs.{Scale, LawfulScale, price, summable, multipliable, billable}
 use Rattle.lookahead.specs.Gains.{value_of, expected, look_ahead, gain, Near, Within}
-use Rattle.lookahead.specs.Steps.{then, summed, lessened, multiplied, priced, add_outcome, add_outcomes, look_ahead_steps, gain_steps}
+use Rattle.lookahead.specs.Steps.{then, summed, lessened, multiplied, priced, add_outcome, add_outcomes, ahead_of, above_own, look_ahead_steps, gain_of, gain_steps}
 
 -- reaches
 abs_plus : (x y : ℤ) → nat_abs (x +ℤ y) ≤ nat_abs x + nat_abs y
@@ -30,6 +30,14 @@ pub reach_plus : (u v : Row) → reach (plus u v) ≤ reach u + reach v
 reach_plus [] v = omega arith
 reach_plus (x ∷ u) [] = omega arith
 reach_plus (x ∷ u) (y ∷ v) = omega (arith, abs_plus x y, reach_plus u v)
+
+abs_minus : (x y : ℤ) → nat_abs (x -ℤ y) ≤ nat_abs x + nat_abs y
+abs_minus x y = omega (arith, ints)
+
+pub reach_minus : (u v : Row) → reach (minus u v) ≤ reach u + reach v
+reach_minus [] v = omega arith
+reach_minus (x ∷ u) [] = omega arith
+reach_minus (x ∷ u) (y ∷ v) = omega (arith, abs_minus x y, reach_minus u v)
 
 pub reach_times : (n : ℕ) (u : Row) → reach (times n u) ≤ n * reach u
 reach_times n [] = omega arith
@@ -196,6 +204,19 @@ module _ (m : Model) (lawful : Lawful m) (t : Scale) (scaled : LawfulScale t) (v
         ∙ ap (λ z. then z (lessened (look_ahead m t vs s x))) (multiplied_there whole (value_of t vs s) (omega arith) (omega arith))
         ∙ lessened_there (look_ahead m t vs s x) (times whole (value_of t vs s)) (omega arith)
 
+    pub gain_reach : reach (gain m t vs s x) ≤ 21000000000000000
+    gain_reach =
+        let l : s < length vs = omega (arith, within.long, (lawful.in_range s x feasible).0) in
+        let at = near_at vs s within.near l (zeros t.places) in
+        let same : whole ≤ whole = omega arith in
+        omega (
+          arith,
+          reach_minus (look_ahead m t vs s x) (times whole (value_of t vs s)),
+          ahead_reach,
+          reach_times whole (value_of t vs s),
+          mul-le whole (reach (value_of t vs s)) whole most_value same at.0,
+        )
+
   by_feasible : (b : Bool) (s x : ℕ) → m.feasible s x ≡ b → (o : Option Row) (u : Row) → (m.feasible s x ≡ true → o ≡ Some u) → (m.feasible s x ≡ false → o ≡ None) → o ≡ cond b (Some u) None
   by_feasible true s x e o u yes-case no-case = yes-case e
   by_feasible false s x e o u yes-case no-case = no-case e
@@ -207,3 +228,18 @@ module _ (m : Model) (lawful : Lawful m) (t : Scale) (scaled : LawfulScale t) (v
   pub gain_answer : (s x : ℕ) → gain_steps m t vs s x ≡ cond (m.feasible s x) (Some (gain m t vs s x)) None
   gain_answer s x = by_feasible (m.feasible s x) s x refl (gain_steps m t vs s x) (gain m t vs s x) (gain_there s x)
       (λ e. ap (λ z. then (cond z (then (priced t (m.bill s x)) (λ p. then (multiplied whole p) (λ u. add_outcomes vs u (m.outcomes s x)))) None) (λ l. then (slice_get vs s) (λ v. then (multiplied whole v) (lessened l)))) e)
+
+  -- with the bill at hand
+  billed_steps : (f : Bool) (own b : Bill) (os : List Outcome) (s : ℕ) → cond f (Some own) None ≡ Some b → gain_of t vs b (cond f os []) s ≡ then (cond f (ahead_of t vs own os) None) (above_own vs s)
+  billed_steps true own b os s e = let same : own ≡ b = cc in ap (λ z. gain_of t vs z os s) (sym same)
+  billed_steps false own b os s e = let z : ◌≡◌ {A = ℕ} 0 1 = cc in absurd (omega arith)
+
+  pub feasible_billed : (s x : ℕ) (b : Bill) → bill_of m s x ≡ Some b → m.feasible s x ≡ true
+  feasible_billed s x b e = by_test (m.feasible s x) e
+    where
+      by_test : (f : Bool) → cond f (Some (m.bill s x)) None ≡ Some b → f ≡ true
+      by_test true h = refl
+      by_test false h = let z : ◌≡◌ {A = ℕ} 0 1 = cc in absurd (omega arith)
+
+  pub billed_gain : (s x : ℕ) (b : Bill) → bill_of m s x ≡ Some b → gain_of t vs b (outcomes_of m s x) s ≡ Some (gain m t vs s x)
+  billed_gain s x b e = billed_steps (m.feasible s x) (m.bill s x) b (m.outcomes s x) s e ∙ gain_there s x (feasible_billed s x b e)

@@ -1,7 +1,7 @@
 -- Answers that may be absent, as rows that may be absent.
 use Rattle.std.proofs.Common.{◌≡◌, ℕ, zero, suc, ◌+◌, ◌<◌, Bool, true, false, cond, List, [], ◌∷◌, length, drop, Some, None, Option, sym, refl, ap, ◌∙◌, add-one, arith}
 use Rattle.std.specs.List.{slice_get}
-use Rattle.std.specs.Option.{option_map}
+use Rattle.std.specs.Option.{option_map, IsSomeAnd}
 use Rattle.interface.specs.Rows.{Row}
 use Rattle.interface.specs.Tariffs.{Answers}
 
@@ -25,3 +25,7 @@ answers row None true u h = let z : ◌≡◌ {A = ℕ} 0 1 = cc in absurd (omeg
 answers row None false u h = refl
 answers row (Some a) true u h = (refl, cc)
 answers row (Some a) false u h = let z : ◌≡◌ {A = ℕ} 0 1 = cc in absurd (omega arith)
+
+pub some_from : {A : Type 0} (row : A → Row) (r : Option A) (u : Row) → option_map row r ≡ Some u → IsSomeAnd r (λ a. row a ≡ u)
+some_from row None u h = let z : ◌≡◌ {A = ℕ} 0 1 = cc in absurd (omega arith)
+some_from row (Some a) u h = cc

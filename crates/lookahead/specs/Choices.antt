@@ -4,7 +4,8 @@ use Rattle.std.specs.Option.{option_map}
 use Rattle.lookahead.specs.declared.best.Aim.{Aim}
 use Rattle.lookahead.specs.declared.best.Aim.TheVariants.{Least, Greatest}
 use Rattle.lookahead.specs.declared.best.Choice.{Choice}
-use Rattle.lookahead.specs.Best.{Pick, cheaper, dearer}
+use Rattle.interface.specs.Plants.{Model}
+use Rattle.lookahead.specs.Best.{Pick, FirstBest, cheaper, dearer, where_feasible}
 use Rattle.interface.specs.Rows.{Row}
 use Rattle.interface.specs.Tariffs.{Scale, Fit}
 
@@ -22,3 +23,8 @@ Asked {A} post row count rows = (x : ℕ) (r : Option A) → x < count → post 
 -- Each row that is there has the places of the scale, as its order asks.
 abbrev pub EachFits : Scale → (ℕ → Option Row) → Type 0
 EachFits t rows = (k : ℕ) (u : Row) → rows k ≡ Some u → Fit t u
+
+-- A choice is the least that f comes to for the feasible portfolios of a state, the lowest-numbered among equals; it is absent
+-- where no portfolio is feasible.
+abbrev pub FirstLeast : {A : Type 0} → (A → Row) → Model → Scale → (ℕ → ℕ → Row) → ℕ → Option (Choice A) → Type 0
+FirstLeast row m t f s o = FirstBest (cheaper t) (where_feasible m f s) m.portfolios (option_map (pick row) o)

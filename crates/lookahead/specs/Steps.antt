@@ -33,10 +33,20 @@ abbrev pub add_outcomes : List Row → Row → List Outcome → Option Row
 add_outcomes vs u [] = Some u
 add_outcomes vs u (o ∷ os) = then (add_outcome vs u o) (λ w. add_outcomes vs w os)
 
+-- the look-ahead of a bill and its outcomes
+abbrev pub ahead_of : Scale → List Row → Bill → List Outcome → Option Row
+ahead_of t vs b os = then (priced t b) (λ p. then (multiplied whole p) (λ u. add_outcomes vs u os))
+
+-- what a look-ahead exceeds a state's own value by, that value taken 10,000 times
+abbrev pub above_own : List Row → ℕ → Row → Option Row
+above_own vs s l = then (slice_get vs s) (λ v. then (multiplied whole v) (λ w. lessened l w))
+
+-- the gain of a bill and its outcomes, in a state
+abbrev pub gain_of : Scale → List Row → Bill → List Outcome → ℕ → Option Row
+gain_of t vs b os s = then (ahead_of t vs b os) (above_own vs s)
+
 abbrev pub look_ahead_steps : Model → Scale → List Row → ℕ → ℕ → Option Row
-look_ahead_steps m t vs s x =
-    cond (m.feasible s x) (then (priced t (m.bill s x)) (λ p. then (multiplied whole p) (λ u. add_outcomes vs u (m.outcomes s x)))) None
+look_ahead_steps m t vs s x = cond (m.feasible s x) (ahead_of t vs (m.bill s x) (m.outcomes s x)) None
 
 abbrev pub gain_steps : Model → Scale → List Row → ℕ → ℕ → Option Row
-gain_steps m t vs s x =
-    then (look_ahead_steps m t vs s x) (λ l. then (slice_get vs s) (λ v. then (multiplied whole v) (λ w. lessened l w)))
+gain_steps m t vs s x = then (look_ahead_steps m t vs s x) (above_own vs s)

@@ -4,10 +4,10 @@
 ghost use Rattle.std.specs.Prelude.{◌≡◌, map};
 ghost use Rattle.std.specs.Option.{option_map};
 ghost use Rattle.interface.specs.Plants.{outcomes_of};
-ghost use Rattle.lookahead.specs.Steps.{add_outcome, add_outcomes, look_ahead_steps, gain_steps};
+ghost use Rattle.lookahead.specs.Steps.{add_outcome, add_outcomes, ahead_of, look_ahead_steps, gain_of, gain_steps};
 
 use interface::limits::WHOLE;
-use interface::plant::{Outcome, Plant};
+use interface::plant::{Bill, Outcome, Plant};
 use interface::tariff::Tariff;
 
 // The sum with one outcome more: weight × the value of the next state.
@@ -17,7 +17,8 @@ fn add_outcome<T: Tariff>(
     sum: T::Amount,
     o: Outcome,
 ) -> Option<T::Amount>
-    ensures { option_map T.Tariff.row result ≡ add_outcome (map T.Tariff.row values.now) (T.Tariff.row sum) o }
+    ensures { option_map T.Tariff.row result
+        ≡ add_outcome (map T.Tariff.row values.now) (T.Tariff.row sum) o }
 {
     let value = values.get(o.next).copied()?;
     let part = tariff.multiple(o.weight, value)?;
@@ -33,7 +34,8 @@ fn add_outcomes<P: Plant, T: Tariff>(
     state: usize,
     portfolio: usize,
 ) -> Option<T::Amount>
-    ensures { option_map T.Tariff.row result ≡ add_outcomes (map T.Tariff.row values.now) (T.Tariff.row start) (outcomes_of (P.model plant.now) state portfolio) }
+    ensures { option_map T.Tariff.row result ≡ add_outcomes (map T.Tariff.row values.now)
+        (T.Tariff.row start) (outcomes_of (P.model plant.now) state portfolio) }
 {
     let mut sum = start;
     for k in 0..plant.outcome_count(state, portfolio) {
@@ -41,6 +43,23 @@ fn add_outcomes<P: Plant, T: Tariff>(
         sum = add_outcome(tariff, values, sum, o)?;
     }
     Some(sum)
+}
+
+// The look-ahead of a pair whose bill is at hand: the bill is not asked again, each outcome once.
+pub(crate) fn look_ahead_of<P: Plant, T: Tariff>(
+    plant: &P,
+    tariff: &T,
+    values: &[T::Amount],
+    bill: Bill,
+    state: usize,
+    portfolio: usize,
+) -> Option<T::Amount>
+    ensures { option_map T.Tariff.row result ≡ ahead_of (T.scale tariff.now)
+        (map T.Tariff.row values.now) bill (outcomes_of (P.model plant.now) state portfolio) }
+{
+    let price = tariff.price(bill)?;
+    let start = tariff.multiple(WHOLE, price)?;
+    add_outcomes(plant, tariff, values, start, state, portfolio)
 }
 
 // The look-ahead.
@@ -51,15 +70,32 @@ pub(crate) fn look_ahead<P: Plant, T: Tariff>(
     state: usize,
     portfolio: usize,
 ) -> Option<T::Amount>
-    ensures { option_map T.Tariff.row result ≡ look_ahead_steps (P.model plant.now) (T.scale tariff.now) (map T.Tariff.row values.now) state portfolio }
+    ensures { option_map T.Tariff.row result ≡ look_ahead_steps (P.model plant.now)
+        (T.scale tariff.now) (map T.Tariff.row values.now) state portfolio }
 {
     let bill = plant.bill(state, portfolio)?;
-    let price = tariff.price(bill)?;
-    let start = tariff.multiple(WHOLE, price)?;
-    add_outcomes(plant, tariff, values, start, state, portfolio)
+    look_ahead_of(plant, tariff, values, bill, state, portfolio)
 }
 
-// The gain: what the look-ahead exceeds the state's own value by.
+// The gain of a pair whose bill is at hand: what the look-ahead exceeds the state's own value by.
+pub(crate) fn gain_of<P: Plant, T: Tariff>(
+    plant: &P,
+    tariff: &T,
+    values: &[T::Amount],
+    bill: Bill,
+    state: usize,
+    portfolio: usize,
+) -> Option<T::Amount>
+    ensures { option_map T.Tariff.row result ≡ gain_of (T.scale tariff.now) (map T.Tariff.row values.now)
+        bill (outcomes_of (P.model plant.now) state portfolio) state }
+{
+    let ahead = look_ahead_of(plant, tariff, values, bill, state, portfolio)?;
+    let value = values.get(state).copied()?;
+    let own = tariff.multiple(WHOLE, value)?;
+    tariff.difference(ahead, own)
+}
+
+// The gain.
 pub(crate) fn gain<P: Plant, T: Tariff>(
     plant: &P,
     tariff: &T,
@@ -67,10 +103,9 @@ pub(crate) fn gain<P: Plant, T: Tariff>(
     state: usize,
     portfolio: usize,
 ) -> Option<T::Amount>
-    ensures { option_map T.Tariff.row result ≡ gain_steps (P.model plant.now) (T.scale tariff.now) (map T.Tariff.row values.now) state portfolio }
+    ensures { option_map T.Tariff.row result ≡ gain_steps (P.model plant.now) (T.scale tariff.now)
+        (map T.Tariff.row values.now) state portfolio }
 {
-    let ahead = look_ahead(plant, tariff, values, state, portfolio)?;
-    let value = values.get(state).copied()?;
-    let own = tariff.multiple(WHOLE, value)?;
-    tariff.difference(ahead, own)
+    let bill = plant.bill(state, portfolio)?;
+    gain_of(plant, tariff, values, bill, state, portfolio)
 }

@@ -7,7 +7,7 @@ use Rattle.certificate.proofs.check.states_hold.Goals as goal
 
 pub returns-in_err-state_holds : goal.returns-in_err-state_holds
 returns-in_err-state_holds g c =
-    let f = state_fault (g.P.Plant.model c.args.valued.now.plant.now) (g.T.Tariff.scale c.args.valued.now.tariff.now) (map g.T.Tariff.row c.args.valued.now.table.amounts.now) c.args.policy.now (g.T.Tariff.row c.args.claims.low) (g.T.Tariff.row c.args.claims.high) in
+    let f = state_fault (g.P.Plant.model c.args.valued.now.plant.now) (g.T.Tariff.scale c.args.valued.now.tariff.now) (map g.T.Tariff.row c.args.valued.now.table.amounts.now) c.args.policy.now (g.T.Tariff.row c.args.claims.now.low) (g.T.Tariff.row c.args.claims.now.high) in
     let s = c.loop-state.state in
     let e = c.in_err-state_holds.field-0.0 in
     let out : c.from_residual.result ≡ Err e = search rules in

@@ -20,14 +20,14 @@ pub returns-clause-past : goal.returns-clause-past
 returns-clause-past c =
     let i = c.self.inside in
     let value : airing i.state (i.windows + 1) (i.seconds + c.from.result) (i.cents + c.from-2.result) i.portfolio ≡ aired c.args.self =
-      ap (λ z. airing i.state (i.windows + 1) (i.seconds + z) (i.cents + c.from-2.result) i.portfolio) c.from.ensures
-      ∙ ap (λ z. airing i.state (i.windows + 1) (i.seconds + i.bill.seconds) (i.cents + z) i.portfolio) c.from-2.ensures ∙ ap aired c.self.view_is in
+    ap (λ z. airing i.state (i.windows + 1) (i.seconds + z) (i.cents + c.from-2.result) i.portfolio) c.from.ensures
+    ∙ ap (λ z. airing i.state (i.windows + 1) (i.seconds + i.bill.seconds) (i.cents + z) i.portfolio) c.from-2.ensures ∙ ap aired c.self.view_is in
     subst (λ w. Continues (issued c.args.self) carry_out_event (on_air w)) (sym value) (carry_out_goes_on c.args.self)
 
 pub returns-clause-accounted : goal.returns-clause-accounted
 returns-clause-accounted c =
     let i = c.self.inside in
     let value : airing i.state (i.windows + 1) (i.seconds + c.from.result) (i.cents + c.from-2.result) i.portfolio ≡ aired c.args.self =
-      ap (λ z. airing i.state (i.windows + 1) (i.seconds + z) (i.cents + c.from-2.result) i.portfolio) c.from.ensures
-      ∙ ap (λ z. airing i.state (i.windows + 1) (i.seconds + i.bill.seconds) (i.cents + z) i.portfolio) c.from-2.ensures ∙ ap aired c.self.view_is in
+    ap (λ z. airing i.state (i.windows + 1) (i.seconds + z) (i.cents + c.from-2.result) i.portfolio) c.from.ensures
+    ∙ ap (λ z. airing i.state (i.windows + 1) (i.seconds + i.bill.seconds) (i.cents + z) i.portfolio) c.from-2.ensures ∙ ap aired c.self.view_is in
     accounted _ (subst (λ w. Lasting (on_air w)) (sym value) (lasting_carry_out _ (subst (λ o. Lasting (issued o)) c.self.view_is c.self.invariant)))

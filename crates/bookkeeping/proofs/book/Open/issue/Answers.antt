@@ -18,7 +18,7 @@ invariant_of-result g c =
     let there : bill_of m c.args.self.state c.in-Ok.portfolio ≡ Some c.in-Some.bill = search rules in
     let made = order_made m c.args.self c.args.policy.now c.in-Ok.portfolio c.in-Some.bill entry there in
     let value : ordered m c.args.self c.args.policy.now ≡ order i.state i.windows i.seconds i.cents c.in-Ok.portfolio c.in-Some.bill =
-      made.1 ∙ ap (λ a. record { account = a; portfolio = c.in-Ok.portfolio; bill = c.in-Some.bill }) (sym c.self.view_is) in
+    made.1 ∙ ap (λ a. record { account = a; portfolio = c.in-Ok.portfolio; bill = c.in-Some.bill }) (sym c.self.view_is) in
     subst (λ o. Lasting (issued o)) value
     (lasting_issue m c.args.self c.args.policy.now (g.met.P.Plant.lawful c.args.plant.now) (subst (λ a. Lasting (opened a)) c.self.view_is c.self.invariant) made.0)
 
@@ -60,7 +60,7 @@ returns-in-Some-clause-past g c =
     let there : bill_of m c.args.self.state c.in-Ok.portfolio ≡ Some c.in-Some.bill = search rules in
     let made = order_made m c.args.self c.args.policy.now c.in-Ok.portfolio c.in-Some.bill c.in-Ok.ensures.entry there in
     let value : ordered m c.args.self c.args.policy.now ≡ order i.state i.windows i.seconds i.cents c.in-Ok.portfolio c.in-Some.bill =
-      made.1 ∙ ap (λ a. record { account = a; portfolio = c.in-Ok.portfolio; bill = c.in-Some.bill }) (sym c.self.view_is) in
+    made.1 ∙ ap (λ a. record { account = a; portfolio = c.in-Ok.portfolio; bill = c.in-Some.bill }) (sym c.self.view_is) in
     subst (λ o. Continues (opened c.args.self) (issue_event m c.args.policy.now (Ok o)) (issued o)) value
     (issue_goes_on m c.args.self c.args.policy.now (g.met.P.Plant.lawful c.args.plant.now) made.0)
 
@@ -71,6 +71,6 @@ returns-in-Some-clause-accounted g c =
     let there : bill_of m c.args.self.state c.in-Ok.portfolio ≡ Some c.in-Some.bill = search rules in
     let made = order_made m c.args.self c.args.policy.now c.in-Ok.portfolio c.in-Some.bill c.in-Ok.ensures.entry there in
     let value : ordered m c.args.self c.args.policy.now ≡ order i.state i.windows i.seconds i.cents c.in-Ok.portfolio c.in-Some.bill =
-      made.1 ∙ ap (λ a. record { account = a; portfolio = c.in-Ok.portfolio; bill = c.in-Some.bill }) (sym c.self.view_is) in
+    made.1 ∙ ap (λ a. record { account = a; portfolio = c.in-Ok.portfolio; bill = c.in-Some.bill }) (sym c.self.view_is) in
     accounted _ (subst (λ o. Lasting (issued o)) value
     (lasting_issue m c.args.self c.args.policy.now (g.met.P.Plant.lawful c.args.plant.now) (subst (λ a. Lasting (opened a)) c.self.view_is c.self.invariant) made.0))
