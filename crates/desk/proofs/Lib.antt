@@ -1,1 +1,2 @@
 mod AskLaws
+mod TalkLaws

@@ -1,17 +1,20 @@
 -- The lines in which the desk answers.
-use Rattle.std.specs.Prelude.{ℕ, List, [], ◌∷◌, ◌++◌, codes, decimal}
+use Rattle.std.specs.Prelude.{ℕ, List, [], ◌∷◌, ◌++◌, Option, Some, None, codes, decimal}
+use Rattle.bookkeeping.specs.declared.stage.Stage.{Stage}
+use Rattle.bookkeeping.specs.declared.stage.Stage.TheVariants as stage
+use Rattle.bookkeeping.specs.Books.{Account, account}
+use Rattle.bookkeeping.specs.Log.{Reply, goes_on, refused}
+use Rattle.bookkeeping.specs.Refusals.{number_of, place_of}
+use Rattle.bookkeeping.specs.Standings.{reply_of}
 use Rattle.interface.specs.Rows.{Row}
 use Rattle.lines.specs.Fields.{comma}
 use Rattle.plantext.specs.Lines.{line, amount}
-use Rattle.desk.specs.declared.saying.Account.{Account}
+use Rattle.service.specs.Services as service
 use Rattle.desk.specs.declared.saying.Claim.{Claim}
 use Rattle.desk.specs.declared.saying.Claim.TheVariants.{Low, High, Top, Bottom}
-use Rattle.desk.specs.declared.saying.Saying.{Saying}
-use Rattle.desk.specs.declared.saying.Saying.TheVariants.{Open, Issued, OnAir, Refused}
-
--- room for the numbers of an account with their commas
-abbrev pub account_room : ℕ
-account_room = 73
+use Rattle.desk.specs.declared.saying.Shown.{Shown}
+use Rattle.desk.specs.declared.saying.Told.{Told}
+use Rattle.desk.specs.declared.saying.Told.TheVariants.{NotMade, Answered}
 
 abbrev pub claim_key : Claim → List ℕ
 claim_key Low = codes "low"
@@ -19,10 +22,11 @@ claim_key High = codes "high"
 claim_key Top = codes "top"
 claim_key Bottom = codes "bottom"
 
+-- The line of an amount.
 abbrev pub claim_line : Claim → Row → List ℕ
 claim_line c u = line (claim_key c) (amount u)
 
--- a number with a comma before it
+-- A number with a comma before it.
 abbrev pub further : ℕ → List ℕ
 further n = comma ∷ decimal n
 
@@ -30,21 +34,44 @@ further n = comma ∷ decimal n
 abbrev pub account_text : Account → List ℕ
 account_text a = decimal a.state ++ (further a.windows ++ (further a.seconds ++ further a.cents))
 
--- The same, and behind it the portfolio.
-abbrev pub held_text : Account → ℕ → List ℕ
-held_text a x = account_text a ++ further x
+-- Behind them the portfolio that is held, if there is one.
+abbrev pub held_text : Option ℕ → List ℕ
+held_text None = []
+held_text (Some x) = further x
 
-abbrev pub saying_key : Saying → List ℕ
-saying_key (Open a) = codes "open"
-saying_key (Issued a x) = codes "issued"
-saying_key (OnAir a x) = codes "on-air"
-saying_key (Refused n p) = codes "refused"
+abbrev pub shown_text : service.Shown → List ℕ
+shown_text s = account_text s.account ++ held_text s.held
 
-abbrev pub saying_value : Saying → List ℕ
-saying_value (Open a) = account_text a
-saying_value (Issued a x) = held_text a x
-saying_value (OnAir a x) = held_text a x
-saying_value (Refused n p) = decimal n ++ further p
+-- room for that
+abbrev pub shown_room : ℕ
+shown_room = 79
 
-abbrev pub saying_line : Saying → List ℕ
-saying_line s = line (saying_key s) (saying_value s)
+abbrev pub stage_key : Stage → List ℕ
+stage_key stage.Open = codes "open"
+stage_key stage.Issued = codes "issued"
+stage_key stage.OnAir = codes "on-air"
+
+-- The line of a book at a stage.
+abbrev pub book_line : Stage → service.Shown → List ℕ
+book_line stage s = line (stage_key stage) (shown_text s)
+
+-- The line of a refusal: the number of the reason, and the place.
+abbrev pub refusal_line : ℕ → ℕ → List ℕ
+refusal_line n p = line (codes "refused") (decimal n ++ further p)
+
+-- The line in which it is told what came of a call: of a refusal the number and the place, else what the book shows.
+abbrev pub reply_line : Reply → Option service.Shown → List ℕ
+reply_line (refused n p) shown = refusal_line n p
+reply_line (goes_on stage) (Some s) = book_line stage s
+reply_line (goes_on stage) None = line (stage_key stage) []
+
+abbrev pub told_line : service.Told → List ℕ
+told_line t = reply_line t.reply t.shown
+
+-- What is shown and told, in the words of the service.
+abbrev pub shown_of : Shown → service.Shown
+shown_of s = record { account = account s.state s.windows s.seconds s.cents; held = s.portfolio }
+
+abbrev pub told_of : Told → service.Told
+told_of (NotMade why) = record { reply = refused (number_of why) (place_of why); shown = None }
+told_of (Answered answer s) = record { reply = reply_of answer; shown = Some (shown_of s) }

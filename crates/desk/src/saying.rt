@@ -1,7 +1,12 @@
 ghost use Rattle.std.specs.Prelude.{◌≡◌, ◌+◌, ◌≤◌, ◌++◌, length};
+ghost use Rattle.bookkeeping.specs.Standings.{book_of};
 ghost use Rattle.plantext.specs.Spaces.{line_room};
-ghost use Rattle.desk.specs.Saying.{claim_key, claim_line, saying_key, saying_value, saying_line, account_text, account_room, held_text};
+ghost use Rattle.service.specs.Services.{shown};
+ghost use Rattle.desk.specs.Saying.{claim_key, claim_line, refusal_line, stage_key, book_line, shown_room, account_text, held_text, shown_text, told_line, shown_of, told_of};
 
+use bookkeeping::refusal::Refusal;
+use bookkeeping::stage::Stage;
+use bookkeeping::standing::{Answer, Standing};
 use interface::tariff::Tariff;
 use lines::cutting::COMMA;
 use lines::reading::{EQUALS_SIGN, LINE_END};
@@ -20,32 +25,6 @@ pub enum Claim {
     Bottom,
 }
 
-/// Where a book stands, and what it has booked.
-#[derive(Clone, Copy, PartialEq, Eq, Debug)]
-pub struct Account {
-    /// The state in which it stands.
-    pub state: usize,
-    /// How many windows are booked.
-    pub windows: u32,
-    /// Their dark seconds, added up.
-    pub seconds: u64,
-    /// Their cents, added up.
-    pub cents: u64,
-}
-
-/// What the desk says of a book and of what was asked.
-#[derive(Clone, Copy, PartialEq, Eq, Debug)]
-pub enum Saying {
-    /// The book is open.
-    Open(Account),
-    /// The portfolio is ordered.
-    Issued(Account, u16),
-    /// The portfolio was carried out.
-    OnAir(Account, u16),
-    /// It is not done: the number of the reason, and its place.
-    Refused(u32, usize),
-}
-
 impl Claim {
     fn key(self) -> &'static [u8]
         ensures key { result.now ≡ claim_key self }
@@ -59,7 +38,7 @@ impl Claim {
         }
     }
 
-    /// The line of an amount.
+    /// The line of an amount, with its line end.
     pub fn line<T: Tariff>(self, tariff: &T, amount: T::Amount) -> LineText
         ensures { result.bytes.items ≡ claim_line self (T.Tariff.row amount) }
     {
@@ -72,74 +51,129 @@ impl Claim {
     }
 }
 
-// The numbers of an account, with a comma between each two.
-fn push_account(line: &mut LineText, account: Account)
-    requires { length line.old.bytes.items + account_room ≤ line_room }
-    ensures text { line.new.bytes.items ≡ line.old.bytes.items ++ account_text account }
-    ensures len { length line.new.bytes.items ≤ length line.old.bytes.items + account_room }
-{
-    line.push_number(account.state);
-    line.push_byte(COMMA);
-    line.push_number(account.windows);
-    line.push_byte(COMMA);
-    line.push_number(account.seconds);
-    line.push_byte(COMMA);
-    line.push_number(account.cents);
+/// What a book shows: where it stands, what it has booked, and the portfolio that it holds.
+#[derive(Clone, Copy, PartialEq, Eq, Debug)]
+pub struct Shown {
+    /// The state in which the book stands.
+    pub state: usize,
+    /// How many windows are booked.
+    pub windows: u32,
+    /// Their dark seconds, added up.
+    pub seconds: u64,
+    /// Their cents, added up.
+    pub cents: u64,
+    /// The portfolio that is ordered or on air; none while the book is open.
+    pub portfolio: Option<u16>,
 }
 
-// The same with the portfolio that the book holds.
-fn push_held(line: &mut LineText, account: Account, portfolio: u16)
-    requires { length line.old.bytes.items + account_room + 6 ≤ line_room }
-    ensures text {
-        line.new.bytes.items ≡ line.old.bytes.items ++ held_text account portfolio
-    }
-    ensures len { length line.new.bytes.items ≤ length line.old.bytes.items + account_room + 6 }
-{
-    push_account(line, account);
-    line.push_byte(COMMA);
-    line.push_number(portfolio);
-}
-
-impl Saying {
-    fn key(self) -> &'static [u8]
-        ensures key { result.now ≡ saying_key self }
-        ensures short { length result.now ≤ 7 }
+impl Shown {
+    /// What this book shows.
+    pub fn of(book: &Standing) -> Shown
+        ensures { shown_of result ≡ shown (book_of book.now) }
     {
-        match self {
-            Saying::Open(_) => b"open",
-            Saying::Issued(_, _) => b"issued",
-            Saying::OnAir(_, _) => b"on-air",
-            Saying::Refused(_, _) => b"refused",
+        Shown {
+            state: book.state(),
+            windows: book.windows(),
+            seconds: book.seconds(),
+            cents: book.cents(),
+            portfolio: book.portfolio(),
         }
     }
 
-    // What stands behind the equals sign.
-    fn push_value(self, line: &mut LineText)
-        requires { length line.old.bytes.items + account_room + 6 ≤ line_room }
-        ensures text { line.new.bytes.items ≡ line.old.bytes.items ++ saying_value self }
-        ensures len { length line.new.bytes.items ≤ length line.old.bytes.items + account_room + 6 }
+    // The numbers of the account, with a comma between each two.
+    fn push_account(self, line: &mut LineText)
+        requires { length line.old.bytes.items + 73 ≤ line_room }
+        ensures text { line.new.bytes.items ≡ line.old.bytes.items ++ account_text (shown_of self).account }
+        ensures len { length line.new.bytes.items ≤ length line.old.bytes.items + 73 }
     {
-        match self {
-            Saying::Open(account) => push_account(line, account),
-            Saying::Issued(account, portfolio) => push_held(line, account, portfolio),
-            Saying::OnAir(account, portfolio) => push_held(line, account, portfolio),
-            Saying::Refused(number, place) => {
-                line.push_number(number);
-                line.push_byte(COMMA);
-                line.push_number(place);
-            }
+        line.push_number(self.state);
+        line.push_byte(COMMA);
+        line.push_number(self.windows);
+        line.push_byte(COMMA);
+        line.push_number(self.seconds);
+        line.push_byte(COMMA);
+        line.push_number(self.cents);
+    }
+
+    // The portfolio with a comma before it, if there is one.
+    fn push_held(self, line: &mut LineText)
+        requires { length line.old.bytes.items + 6 ≤ line_room }
+        ensures text { line.new.bytes.items ≡ line.old.bytes.items ++ held_text (shown_of self).held }
+        ensures len { length line.new.bytes.items ≤ length line.old.bytes.items + 6 }
+    {
+        if let Some(portfolio) = self.portfolio {
+            line.push_byte(COMMA);
+            line.push_number(portfolio);
         }
     }
 
-    /// The line in which it is said, with its line end.
+    // Both.
+    fn push(self, line: &mut LineText)
+        requires { length line.old.bytes.items + shown_room ≤ line_room }
+        ensures text { line.new.bytes.items ≡ line.old.bytes.items ++ shown_text (shown_of self) }
+        ensures len { length line.new.bytes.items ≤ length line.old.bytes.items + shown_room }
+    {
+        self.push_account(line);
+        self.push_held(line);
+    }
+}
+
+// The key under which a book at this stage is said.
+fn stage_key(stage: Stage) -> &'static [u8]
+    ensures key { result.now ≡ stage_key stage }
+    ensures short { length result.now ≤ 6 }
+{
+    match stage {
+        Stage::Open => b"open",
+        Stage::Issued => b"issued",
+        Stage::OnAir => b"on-air",
+    }
+}
+
+// The line of a book at a stage.
+fn book_line(stage: Stage, shown: Shown) -> LineText
+    ensures { result.bytes.items ≡ book_line stage (shown_of shown) }
+{
+    let mut line = LineText::new();
+    line.push(stage_key(stage));
+    line.push_byte(EQUALS_SIGN);
+    shown.push(&mut line);
+    line.push_byte(LINE_END);
+    line
+}
+
+/// The line of a refusal, with its line end: the number of the reason, and the place.
+pub fn refusal_line(number: u32, place: usize) -> LineText
+    ensures { result.bytes.items ≡ refusal_line number place }
+{
+    let mut line = LineText::new();
+    line.push(b"refused");
+    line.push_byte(EQUALS_SIGN);
+    line.push_number(number);
+    line.push_byte(COMMA);
+    line.push_number(place);
+    line.push_byte(LINE_END);
+    line
+}
+
+/// What an operator is told.
+#[derive(Clone, Copy, PartialEq, Eq, Debug)]
+pub enum Told {
+    /// No book is made.
+    NotMade(Refusal),
+    /// The answer to a call, and what the book then shows.
+    Answered(Answer, Shown),
+}
+
+impl Told {
+    /// The line in which it is told, with its line end.
     pub fn line(self) -> LineText
-        ensures { result.bytes.items ≡ saying_line self }
+        ensures { result.bytes.items ≡ told_line (told_of self) }
     {
-        let mut line = LineText::new();
-        line.push(self.key());
-        line.push_byte(EQUALS_SIGN);
-        self.push_value(&mut line);
-        line.push_byte(LINE_END);
-        line
+        match self {
+            Told::NotMade(why) => refusal_line(why.number(), why.place()),
+            Told::Answered(Answer::Refused(why), _) => refusal_line(why.number(), why.place()),
+            Told::Answered(Answer::Next(stage), shown) => book_line(stage, shown),
+        }
     }
 }
