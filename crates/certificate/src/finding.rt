@@ -24,11 +24,9 @@ pub(crate) fn extreme<T: Tariff>(
     tariff: &T,
     table: &ValueTable<T::Amount>,
 ) -> Option<Choice<T::Amount>>
-    ensures {
-        option_map (pick T.Tariff.row) result
+    ensures { option_map (pick T.Tariff.row) result
         ≡ first_best (good aim (T.scale tariff.now))
-            (slice_get (map T.Tariff.row table.now.amounts.now)) (length table.now.amounts.now)
-    }
+        (slice_get (map T.Tariff.row table.now.amounts.now)) (length table.now.amounts.now) }
 {
     aim.first_best(tariff, table.amounts.len(), |s| table.value(s))
 }

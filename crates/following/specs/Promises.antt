@@ -7,6 +7,7 @@ use Rattle.interface.specs.Rows.{Row, plus, minus, times}
 use Rattle.interface.specs.Tariffs.{Scale, AtMost, price}
 use Rattle.bookkeeping.specs.Books.{Account, aired}
 use Rattle.bookkeeping.specs.Calls.{MayIssue, ordered, Reported}
+use Rattle.certificate.specs.declared.finding.Finding.{Finding}
 use Rattle.following.specs.Rules.{Rule, lists, weight, weighed, costs, Plays, Enumerates}
 
 -- The policy of each window, counted from 0.
@@ -53,3 +54,11 @@ pub record CostBound (m : Model) (t : Scale) (ps : Policies) (low high top botto
 abbrev pub Promise : Model → Scale → Policies → Row → Row → Row → Row → Type 0
 Promise m t ps low high top bottom =
     (a : Account) (n : ℕ) → a.state < m.states → a.windows + n ≤ most_windows → CostBound m t ps low high top bottom a n
+
+-- The same policy in every window.
+abbrev pub always : List ℕ → Policies
+always ps = λ j. ps
+
+-- What a finding promises of the policy of its certificate.
+abbrev pub Promised : {A : Type 0} → (A → Row) → Model → Scale → List ℕ → Finding A → Type 0
+Promised row m t ps f = Promise m t (always ps) (row f.low) (row f.high) (row f.top) (row f.bottom)

@@ -1,2 +1,4 @@
 //! Books that follow an accepted certificate, and what that promises of their cost.
 #![tactic(auto)]
+
+pub mod accept;

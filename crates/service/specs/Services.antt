@@ -6,6 +6,12 @@ use Rattle.bookkeeping.specs.Books.{Account, Book, account_of, held_by}
 use Rattle.bookkeeping.specs.Log.{Log, Call, issue, carry_out, report, Reply, goes_on, refused, noted_seconds, noted_cents}
 use Rattle.bookkeeping.specs.Pasts.{Event, Past, log_of}
 use Rattle.bookkeeping.specs.LookingBack.{GoesOn}
+use Rattle.bookkeeping.specs.Refusals.{number_of, place_of}
+use Rattle.bookkeeping.specs.Standings.{book_of, asked, reply_of, fits}
+use Rattle.bookkeeping.specs.declared.refusal.Refusal.{Refusal}
+use Rattle.bookkeeping.specs.declared.standing.Answer.{Answer}
+use Rattle.bookkeeping.specs.declared.standing.Call as asking
+use Rattle.bookkeeping.specs.declared.standing.Standing.{Standing}
 
 -- What is asked: a book in a state, an order by the policy, that it is carried out, an outcome to be reported.
 pub data Ask : Type 0 where
@@ -74,23 +80,46 @@ AllBy m ps (e ∷ es) = IsBy m ps e.call × AllBy m ps es
 abbrev pub no_book : ℕ → Told
 no_book s = record { reply = refused 21 s; shown = None }
 
--- What an operator asked and was told beside a plant, by a policy, from its first question on: it was refused a book in states
--- that the plant does not have; in the first state that it has the book was made; and from there on the whole past of
--- the book is what was asked, and its log is what was told.
-pub record InService (m : Model) (ps : List ℕ) (asked : List Ask) (told : List Told) (b : Book) : Type 0 where
+-- All that an operator has asked and was told, the newest first.
+pub record Talk : Type 0 where
+  pub asked : List Ask
+  pub told : List Told
+
+-- Between two moments an operator was refused a book in these states, none of which the plant has.
+pub record NoneMade (m : Model) (from to : Talk) : Type 0 where
   pub unknown : List ℕ
   pub none_known : All (λ s. m.states ≤ s) unknown
+  pub asked_all : to.asked ≡ map to_make unknown ++ from.asked
+  pub told_all : to.told ≡ map no_book unknown ++ from.told
+
+-- From one moment to another a book was made beside a plant, in the first state asked for that the plant has, and follows a policy. What was
+-- asked is its whole past, each order by this policy and beside this plant, and what was told is what its log replies and shows.
+pub record InService (m : Model) (ps : List ℕ) (from to : Talk) (b : Book) : Type 0 where
+  pub unmade : Talk
+  pub none_made : NoneMade m from unmade
   pub first : ℕ
   pub known : first < m.states
   pub events : List Event
   pub past : GoesOn first events b
   pub by : AllBy m ps events
-  pub asked_all : asked ≡ asked_for first events ++ map to_make unknown
-  pub told_all : told ≡ told_of first events ++ map no_book unknown
+  pub asked_all : to.asked ≡ asked_for first events ++ unmade.asked
+  pub told_all : to.told ≡ told_of first events ++ unmade.told
 
--- So too where no book was made.
-pub record NotMade (m : Model) (asked : List Ask) (told : List Told) : Type 0 where
-  pub unknown : List ℕ
-  pub none_known : All (λ s. m.states ≤ s) unknown
-  pub asked_all : asked ≡ map to_make unknown
-  pub told_all : told ≡ map no_book unknown
+-- What comes of a service: a book that is in it, or none.
+abbrev pub Serves : Model → List ℕ → Talk → Talk → Option Book → Type 0
+Serves m ps from to None = NoneMade m from to
+Serves m ps from to (Some b) = InService m ps from to b
+
+-- An operator is told an answer, and shown the book as it then is.
+abbrev pub IsTold : Answer → Standing → List Told → List Told → Type 0
+IsTold answer book old new = new ≡ record { reply = reply_of answer; shown = Some (shown (book_of book)) } ∷ old
+
+-- An operator is told why no book is made.
+abbrev pub IsToldRefusal : Refusal → List Told → List Told → Type 0
+IsToldRefusal why old new = new ≡ record { reply = refused (number_of why) (place_of why); shown = None } ∷ old
+
+-- A call is asked for: it fits the book, goes by this policy, and was the last thing asked; or nothing more is asked.
+abbrev pub AsksCall : Book → List ℕ → Option asking.Call → List Ask → List Ask → Type 0
+AsksCall b ps None old new = new ≡ old
+AsksCall b ps (Some c) old new =
+    (m : Model) → (fits b (asked m c) ≡ true) × IsBy m ps (asked m c) × (new ≡ ask_of (asked m c) ∷ old)

@@ -1,6 +1,5 @@
-ghost use Rattle.std.specs.Prelude.{◌≡◌, List, ◌∷◌, Some, None};
-ghost use Rattle.bookkeeping.specs.Log.{refused};
-ghost use Rattle.service.specs.Services.{Ask, Told, to_issue, to_carry_out, to_make, to_report, AsksIf, AsksFor};
+ghost use Rattle.std.specs.Prelude.{◌≡◌, List};
+ghost use Rattle.service.specs.Services.{Ask, Told, to_issue, to_carry_out, to_make, to_report, AsksIf, AsksFor, IsTold, IsToldRefusal};
 
 use bookkeeping::refusal::Refusal;
 use bookkeeping::standing::{Answer, Standing};
@@ -8,7 +7,7 @@ use certificate::finding::Finding;
 use interface::tariff::Tariff;
 
 /// Who drives a book: is shown what was found of the plan, asks for each call, and is told what came of it.
-pub trait Operator<T: Tariff> {
+pub trait Operator {
     /// What was asked so far, the newest first.
     ghost asked: { Self → List Ask };
 
@@ -16,7 +15,7 @@ pub trait Operator<T: Tariff> {
     ghost told: { Self → List Told };
 
     /// Is shown the finding of the check.
-    fn found(&mut self, tariff: &T, finding: &Finding<T::Amount>)
+    fn found<T: Tariff>(&mut self, tariff: &T, finding: &Finding<T::Amount>)
         ensures asked { asked self.new ≡ asked self.old }
         ensures told { told self.new ≡ told self.old };
 

@@ -1,1 +1,135 @@
-// serve: plans, has the plan checked, and follows it with a book as an operator asks
+ghost use Rattle.std.specs.Prelude.{◌≡◌, map, Some, IfOk, OnErr};
+ghost use Rattle.std.specs.Option.{option_map};
+ghost use Rattle.bookkeeping.specs.Standings.{book_of};
+ghost use Rattle.planner.specs.Answers.{Answer, Only};
+ghost use Rattle.service.specs.Planning.{AllPromised, claimed};
+ghost use Rattle.service.specs.Services.{AsksCall, InService, Serves};
+
+use crate::operator::Operator;
+use bookkeeping::book::Open;
+use bookkeeping::stage::Stage;
+use bookkeeping::standing::{Answer, Call, Standing};
+use certificate::finding::Finding;
+use following::accept::accept;
+use interface::plant::Plant;
+use interface::tariff::Tariff;
+use planner::plan::plan;
+use planner::refusal::Refusal;
+
+/// What a service came to.
+#[derive(Drop)]
+pub struct Served<A> {
+    /// What the check found of the plan.
+    pub finding: Finding<A>,
+    /// The book as it stands, if one was made.
+    pub book: Option<Standing>,
+}
+
+// The book that is made in the first state asked for that the plant has.
+fn make_book<P: Plant, O: Operator>(plant: &P, operator: &mut O) -> Option<Standing>
+    ensures {
+        (ps : List ℕ) → Serves (P.model plant.now) ps
+            (record { asked = O.asked operator.old; told = O.told operator.old })
+            (record { asked = O.asked operator.new; told = O.told operator.new })
+            (option_map book_of result)
+    }
+{
+    // Nothing says that an operator ever stops asking.
+    for _turn in 0..u64::MAX {
+        let state = operator.state()?;
+        match Open::make(plant, state) {
+            Ok(book) => {
+                let book = Standing::Open(book);
+                operator.tell(Answer::Next(Stage::Open), &book);
+                return Some(book);
+            }
+            Err(why) => operator.not_made(why),
+        }
+    }
+    None
+}
+
+// The call that is asked for next at the book's stage.
+fn next_call<'a, O: Operator>(
+    book: &Standing,
+    policy: &'a [u16],
+    operator: &mut O,
+) -> Option<Call<'a>>
+    ensures asked {
+        AsksCall (book_of book.now) policy.now result (O.asked operator.old) (O.asked operator.new)
+    }
+    ensures told { O.told operator.new ≡ O.told operator.old }
+{
+    match book.stage() {
+        Stage::Open => operator.order().then_some(Call::Issue(policy)),
+        Stage::Issued => operator.carry_out().then_some(Call::CarryOut),
+        Stage::OnAir => operator.outcome().map(Call::Report),
+    }
+}
+
+// The book after all calls that an operator asks for.
+fn attend<P: Plant, O: Operator>(
+    plant: &P,
+    policy: &[u16],
+    made: Standing,
+    operator: &mut O,
+) -> Standing
+    ensures {
+        (from : Talk) → InService (P.model plant.now) policy.now from
+            (record { asked = O.asked operator.old; told = O.told operator.old }) (book_of made)
+        → InService (P.model plant.now) policy.now from
+            (record { asked = O.asked operator.new; told = O.told operator.new }) (book_of result)
+    }
+{
+    let mut book = made;
+    for _turn in 0..u64::MAX {
+        let Some(call) = next_call(&book, policy, operator) else {
+            return book;
+        };
+        let (next, answer) = book.call(plant, &call);
+        book = next;
+        operator.tell(answer.unwrap(), &book);
+    }
+    book
+}
+
+/// Plans, has the plan checked, shows the operator what was found, makes a book where it is asked for, and follows the
+/// plan's policy for as long as the operator asks for the next call. Refused as the planner refuses, before anything is asked.
+pub fn serve<P: Plant, T: Tariff, O: Operator>(
+    plant: &P,
+    tariff: &T,
+    sweeps: u32,
+    values: &mut [T::Amount],
+    working: &mut [T::Amount],
+    policy: &mut [u16],
+    operator: &mut O,
+) -> Result<Served<T::Amount>, Refusal>
+    // the plan, or why there is none, and what the three tables hold then
+    ensures planned {
+        Answer T.Tariff.row (P.model plant.now) (T.scale tariff.now) sweeps
+            (record { values = values.old; working = working.old; policy = policy.old })
+            (record { values = values.new; working = working.new; policy = policy.new })
+            (claimed result)
+    }
+    // without a plan nothing is asked or told
+    ensures not_planned {
+        OnErr result ((O.asked operator.new ≡ O.asked operator.old)
+            × (O.told operator.new ≡ O.told operator.old))
+    }
+    // the cost bound, the exactness of the claims, and the whole past of the book
+    ensures promised {
+        IfOk result (AllPromised T.Tariff.row (P.model plant.now) (T.scale tariff.now)
+            (record { values = values.new; working = working.new; policy = policy.new })
+            (record { asked = O.asked operator.old; told = O.told operator.old })
+            (record { asked = O.asked operator.new; told = O.told operator.new }))
+    }
+{
+    let claims = plan(plant, tariff, sweeps, values, working, policy)?;
+    let finding = accept(plant, tariff, values, policy, claims).unwrap();
+    operator.found(tariff, &finding);
+    let book = match make_book(plant, operator) {
+        Some(made) => Some(attend(plant, policy, made, operator)),
+        None => None,
+    };
+    Ok(Served { finding, book })
+}
