@@ -1,7 +1,7 @@
 // Plans as text: a plan's lines are written one by one, and a whole plan is read.
 #![tactic(auto)]
 
-mod line;
+pub mod line;
 pub mod reading;
 pub mod refusal;
 pub mod stage;

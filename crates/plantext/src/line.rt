@@ -10,16 +10,18 @@ use interface::tariff::Tariff;
 use itoa::{Buffer, Integer};
 use lines::cutting::COMMA;
 
-// Room for every line of a plan, with its line end; specs/Spaces.antt has the same number for the contracts.
+/// Room for every line of a plan, with its line end; specs/Spaces.antt has the same number for the contracts.
 pub const LINE_ROOM: usize = 200;
 
+/// A line under construction, for whoever writes lines of amounts and numbers.
 #[derive(Drop)]
-pub(crate) struct LineText {
+pub struct LineText {
     pub(crate) bytes: ArrayVec<u8, LINE_ROOM>,
 }
 
 impl LineText {
-    pub(crate) fn new() -> Self
+    /// A line with nothing in it.
+    pub fn new() -> Self
         ensures { result.bytes.items ≡ [] }
     {
         LineText {
@@ -27,15 +29,16 @@ impl LineText {
         }
     }
 
-    pub(crate) fn as_slice(&self) -> &[u8]
+    /// What stands in the line.
+    pub fn as_slice(&self) -> &[u8]
         ensures text { result.now ≡ self.now.bytes.items }
         ensures fits { length result.now ≤ line_room }
     {
         self.bytes.as_slice()
     }
 
-    // Puts a byte behind what stands there; there has to be room.
-    pub(crate) fn push_byte(&mut self, byte: u8)
+    /// Puts a byte behind what stands there; there has to be room.
+    pub fn push_byte(&mut self, byte: u8)
         requires { length self.old.bytes.items < line_room }
         ensures text { self.new.bytes.items ≡ self.old.bytes.items ++ byte ∷ [] }
         ensures len { length self.new.bytes.items ≡ length self.old.bytes.items + 1 }
@@ -43,8 +46,8 @@ impl LineText {
         self.bytes.push(byte);
     }
 
-    // The same of a text.
-    pub(crate) fn push(&mut self, text: &[u8])
+    /// The same of a text.
+    pub fn push(&mut self, text: &[u8])
         requires { length self.old.bytes.items + length text.now ≤ line_room }
         ensures text { self.new.bytes.items ≡ self.old.bytes.items ++ text.now }
         ensures len { length self.new.bytes.items ≡ length self.old.bytes.items + length text.now }
@@ -52,8 +55,8 @@ impl LineText {
         self.bytes.try_extend_from_slice(text).unwrap();
     }
 
-    // The same of a number in base ten.
-    pub(crate) fn push_number<I: Integer>(&mut self, n: I)
+    /// The same of a number in base ten.
+    pub fn push_number<I: Integer>(&mut self, n: I)
         requires { length self.old.bytes.items + I.MAX_STR_LEN ≤ line_room }
         ensures text { self.new.bytes.items ≡ self.old.bytes.items ++ I.text n }
         ensures len { length self.new.bytes.items ≤ length self.old.bytes.items + I.MAX_STR_LEN }
@@ -73,8 +76,8 @@ impl LineText {
         self.push_number(place);
     }
 
-    // The places of an amount, with a comma between each two. So each of them has 64 bits.
-    pub(crate) fn push_amount<T: Tariff>(&mut self, tariff: &T, amount: T::Amount)
+    /// The places of an amount, with a comma between each two. So each of them has 64 bits.
+    pub fn push_amount<T: Tariff>(&mut self, tariff: &T, amount: T::Amount)
         requires { length self.old.bytes.items + amount_room ≤ line_room }
         ensures text { self.new.bytes.items ≡ self.old.bytes.items ++ amount_text (T.Tariff.row amount) }
         ensures len { length self.new.bytes.items ≤ length self.old.bytes.items + amount_room }

@@ -1,0 +1,2 @@
+mod AskLaws
+mod TalkLaws

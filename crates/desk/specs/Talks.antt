@@ -1,0 +1,87 @@
+-- The talk at a desk, turn by turn, and what it comes to.
+use Rattle.std.specs.Prelude.{◌≡◌, ℕ, ◌+◌, List, [], ◌∷◌, ◌++◌, length, Option, Some, None, Ok, Err, Result}
+use Rattle.reading.specs.Rules.{number_of}
+use Rattle.reading.specs.declared.rules.Rule.{Rule}
+use Rattle.service.specs.Services as service
+use Rattle.desk.specs.declared.asking.Ask.{Ask}
+use Rattle.desk.specs.declared.asking.Ask.TheVariants.{State, Order, CarryOut, Outcome}
+use Rattle.desk.specs.declared.talk.Turn.{Turn}
+use Rattle.desk.specs.declared.talk.Turn.TheVariants.{Heard, Told, Shown}
+use Rattle.desk.specs.Asking.{asked}
+use Rattle.desk.specs.Saying.{refusal_line, told_line, told_of}
+
+-- The turns of a talk, the oldest first.
+abbrev pub Talk : Type 0
+Talk = List (Turn × Unit {0})
+
+-- What is asked, in the words of the service.
+abbrev pub ask_of : Ask → service.Ask
+ask_of (State n) = service.to_make n
+ask_of Order = service.to_issue
+ask_of CarryOut = service.to_carry_out
+ask_of (Outcome n) = service.to_report n
+
+-- A line asks what is due, or breaks a rule and is refused with its number in the input.
+abbrev pub asks_by : Result Ask Rule → List service.Ask
+asks_by (Ok a) = ask_of a ∷ []
+asks_by (Err rule) = []
+
+abbrev pub refuses_by : ℕ → Result Ask Rule → List (List ℕ)
+refuses_by n (Ok a) = []
+refuses_by n (Err rule) = refusal_line (number_of rule) n ∷ []
+
+-- What is asked in a turn, and what is told.
+abbrev pub asks_in : Turn → List service.Ask
+asks_in (Heard d line) = asks_by (asked d line.items)
+asks_in (Told t) = []
+asks_in (Shown line) = []
+
+abbrev pub tells_in : Turn → List service.Told
+tells_in (Heard d line) = []
+tells_in (Told t) = told_of t ∷ []
+tells_in (Shown line) = []
+
+-- The line that is heard in a turn, and the line that is said: line n of the input is refused as that line.
+abbrev pub hears_in : Turn → List (List ℕ)
+hears_in (Heard d line) = line.items ∷ []
+hears_in (Told t) = []
+hears_in (Shown line) = []
+
+abbrev pub says_in : ℕ → Turn → List (List ℕ)
+says_in n (Heard d line) = refuses_by n (asked d line.items)
+says_in n (Told t) = told_line (told_of t) ∷ []
+says_in n (Shown line) = line.bytes.items ∷ []
+
+-- All that the turns of a talk give, the newest first.
+abbrev pub newest : {A : Type 0} → (Turn → List A) → Talk → List A
+newest f [] = []
+newest f (t ∷ ts) = newest f ts ++ f t.0
+
+-- How many lines were read of the input after a turn.
+abbrev pub read_after : ℕ → Turn → ℕ
+read_after n t = n + length (hears_in t)
+
+-- All lines that are said in a talk, the newest first, where so many lines of the input were read before it.
+abbrev pub said_from : ℕ → Talk → List (List ℕ)
+said_from n [] = []
+said_from n (t ∷ ts) = said_from (read_after n t.0) ts ++ says_in (read_after n t.0) t.0
+
+-- What was asked before and after a line is heard, if one is.
+abbrev pub Hears : Option (Result Ask Rule) → List service.Ask → List service.Ask → Type 0
+Hears None old new = new ≡ old
+Hears (Some asked) old new = new ≡ asks_by asked ++ old
+
+-- What was heard and said at a terminal is the talk: after the lines that were heard and said before it, each line of the talk
+-- was heard, and all that the talk says was said, in turn; and so many lines of the input were read.
+pub record IsTalk (heard said : List (List ℕ)) (lines : ℕ) (talk : Talk) : Type 0 where
+  pub first : ℕ
+  pub heard_before : List (List ℕ)
+  pub said_before : List (List ℕ)
+  pub heard_all : heard ≡ newest hears_in talk ++ heard_before
+  pub said_all : said ≡ said_from first talk ++ said_before
+  pub counted : lines ≡ first + length (newest hears_in talk)
+
+-- What was asked before and after a desk waits for what is due, if it comes.
+abbrev pub Asks : Option Ask → List service.Ask → List service.Ask → Type 0
+Asks None old new = new ≡ old
+Asks (Some a) old new = new ≡ ask_of a ∷ old
