@@ -44,6 +44,8 @@ pub record CostBound (m : Model) (t : Scale) (ps : Policies) (low high top botto
   pub end : List ℕ → Account
   pub reached : (ks : List ℕ) → Contains (lists m (by_policies ps) n [] a.state) ks → GoesThrough m ps 0 a ks (end ks)
   pub only : (ks : List ℕ) (b : Account) → length ks ≡ n → GoesThrough m ps 0 a ks b → Contains (lists m (by_policies ps) n [] a.state) ks × (b ≡ end ks)
+  -- the book is charged what its policies would cost as a rule of play
+  pub charges : charged m t ps n a end ≡ costs m t (by_policies ps) n a.state
   pub enumerated : Enumerates m (by_policies ps) n a.state
   pub rivals : (r : Rule) → Plays m r n [] a.state → Enumerates m r n a.state
   pub bound : (r : Rule) → Plays m r n [] a.state
