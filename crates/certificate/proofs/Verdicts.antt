@@ -36,12 +36,12 @@ module _ {A : Type 0} (row : A → Row) (m : Model) (lawful : Lawful m) (t : Sca
   refused_from (Ok f) h n p = (λ told. absurd told, λ broken. let told = reason_to m lawful t vs ps (row low) (row high) n p broken in clash _ told.told told.is h.0)
   refused_from (Err e) h n p = (
     λ told.
-    subst (λ q. RefusedAs m t vs ps (row low) (row high) n q) told.1
-    (subst (λ k. RefusedAs m t vs ps (row low) (row high) k (place_of e)) told.0 (reason_from m lawful t vs ps (row low) (row high) e h)),
+        subst (λ q. RefusedAs m t vs ps (row low) (row high) n q) told.1
+        (subst (λ k. RefusedAs m t vs ps (row low) (row high) k (place_of e)) told.0 (reason_from m lawful t vs ps (row low) (row high) e h)),
     λ broken.
-    let told = reason_to m lawful t vs ps (row low) (row high) n p broken in
-    let same = same_told _ e told.told h told.is in
-    (ap number_of same ∙ told.number, ap place_of same ∙ told.place),
+        let told = reason_to m lawful t vs ps (row low) (row high) n p broken in
+        let same = same_told _ e told.told h told.is in
+        (ap number_of same ∙ told.number, ap place_of same ∙ told.place),
   )
 
   pub reason_of : (r : Result (Finding A) Refusal) → Verdict row m t vs ps low high r → IfErr r (λ e. RefusedAs m t vs ps (row low) (row high) (number_of e) (place_of e))
@@ -68,9 +68,9 @@ module _ {A : Type 0} (row : A → Row) (m : Model) (t : Scale) (xs : List A) (p
   recipe_refused_from (Err e) h n p = (
     λ told. subst (λ q. RecipeRefusedAs m t vs ps n q) told.1 (subst (λ k. RecipeRefusedAs m t vs ps k (place_of e)) told.0 (recipe_reason_from m t vs ps e h)),
     λ broken.
-    let told = recipe_reason_to m t vs ps n p broken in
-    let same = same_told _ e told.told h told.is in
-    (ap number_of same ∙ told.number, ap place_of same ∙ told.place),
+        let told = recipe_reason_to m t vs ps n p broken in
+        let same = same_told _ e told.told h told.is in
+        (ap number_of same ∙ told.number, ap place_of same ∙ told.place),
   )
 
   pub recipe_reason_of : (r : Result (Claims A) Refusal) → Recipe row m t vs ps r → IfErr r (λ e. RecipeRefusedAs m t vs ps (number_of e) (place_of e))

@@ -1,15 +1,13 @@
 // The check of a certificate.
 ghost use Rattle.std.specs.Prelude.{◌≡◌, ◌↔◌, ℕ, List, Some, ◌&&◌, map, length, ◌==◌, nat_le, IsOk, IfErr};
 ghost use Rattle.std.specs.Result.{result_err};
-ghost use Rattle.interface.specs.Rows.{Row, reach};
+ghost use Rattle.interface.specs.Rows.{reach};
 ghost use Rattle.interface.specs.Limits.{most_claim};
 ghost use Rattle.interface.specs.Plants.{bill_of, named};
 ghost use Rattle.lookahead.specs.Gains.{gain};
 ghost use Rattle.certificate.specs.Certificates.{Sound};
-ghost use Rattle.certificate.specs.ExactClaims.{NoTighter};
+ghost use Rattle.certificate.specs.ExactClaims.{AcceptsNoTighter};
 ghost use Rattle.certificate.specs.Findings.{Verdict};
-ghost use Rattle.certificate.specs.Reasons.{ClaimsNear};
-ghost use Rattle.certificate.specs.Recipes.{Lowest, Highest, Fitting};
 ghost use Rattle.certificate.specs.RefusedAs.{RefusedAs, IsRefused};
 ghost use Rattle.certificate.specs.Refusals.{refusal, first_fault, value_fault, state_fault, number_of, place_of};
 
@@ -29,11 +27,9 @@ pub(crate) fn values_near<T: Tariff>(
     tariff: &T,
     table: &ValueTable<T::Amount>,
 ) -> Result<(), Refusal>
-    ensures {
-        result_err result
+    ensures { result_err result
         ≡ first_fault (value_fault (T.scale tariff.now) (map T.Tariff.row table.now.amounts.now))
-            (length table.now.amounts.now)
-    }
+        (length table.now.amounts.now) }
 {
     for (s, value) in table.amounts.iter().enumerate() {
         if tariff.reach(*value) > MOST_VALUE {
@@ -51,10 +47,8 @@ fn gain_of<P: Plant, T: Tariff>(
     portfolio: usize,
 ) -> T::Amount
     requires { bill_of (P.model valued.now.plant.now) state portfolio ≡ Some bill }
-    ensures {
-        T.Tariff.row result ≡ gain (P.model valued.now.plant.now) (T.scale valued.now.tariff.now)
-            (map T.Tariff.row valued.now.table.amounts.now) state portfolio
-    }
+    ensures { T.Tariff.row result ≡ gain (P.model valued.now.plant.now) (T.scale valued.now.tariff.now)
+        (map T.Tariff.row valued.now.table.amounts.now) state portfolio }
 {
     valued.gain_of(bill, state, portfolio).unwrap()
 }
@@ -67,13 +61,11 @@ fn state_holds<P: Plant, T: Tariff>(
     state: usize,
     portfolio: usize,
 ) -> Result<(), Refusal>
-    ensures {
-        (policy : List ℕ) → named policy state ≡ portfolio
+    ensures { (policy : List ℕ) → named policy state ≡ portfolio
         → result_err result
-            ≡ state_fault (P.model valued.now.plant.now) (T.scale valued.now.tariff.now)
-                (map T.Tariff.row valued.now.table.amounts.now) policy
-                (T.Tariff.row claims.now.low) (T.Tariff.row claims.now.high) state
-    }
+        ≡ state_fault (P.model valued.now.plant.now) (T.scale valued.now.tariff.now)
+        (map T.Tariff.row valued.now.table.amounts.now) policy
+        (T.Tariff.row claims.now.low) (T.Tariff.row claims.now.high) state }
 {
     if !valued.plant.feasible(state, portfolio) {
         return Err(Refusal::Infeasible(state));
@@ -104,14 +96,12 @@ fn states_hold<P: Plant, T: Tariff>(
     policy: &[u16],
     claims: &Claims<T::Amount>,
 ) -> Result<(), Refusal>
-    ensures {
-        result_err result
+    ensures { result_err result
         ≡ first_fault
-            (state_fault (P.model valued.now.plant.now) (T.scale valued.now.tariff.now)
-                (map T.Tariff.row valued.now.table.amounts.now) policy.now
-                (T.Tariff.row claims.now.low) (T.Tariff.row claims.now.high))
-            (length policy.now)
-    }
+        (state_fault (P.model valued.now.plant.now) (T.scale valued.now.tariff.now)
+        (map T.Tariff.row valued.now.table.amounts.now) policy.now
+        (T.Tariff.row claims.now.low) (T.Tariff.row claims.now.high))
+        (length policy.now) }
 {
     for (state, portfolio) in policy.iter().enumerate() {
         state_holds(valued, claims, state, usize::from(*portfolio))?;
@@ -121,10 +111,8 @@ fn states_hold<P: Plant, T: Tariff>(
 
 // Whether both tables have an entry for each state.
 pub(crate) fn level<P: Plant, A>(plant: &P, table: &ValueTable<A>, policy: &[u16]) -> bool
-    ensures {
-        result ≡ (length table.now.amounts.now == (P.model plant.now).states
-            && length policy.now == (P.model plant.now).states)
-    }
+    ensures { result ≡ (length table.now.amounts.now == (P.model plant.now).states
+        && length policy.now == (P.model plant.now).states) }
 {
     let states = plant.states();
     table.amounts.len() == states && policy.len() == states
@@ -132,10 +120,8 @@ pub(crate) fn level<P: Plant, A>(plant: &P, table: &ValueTable<A>, policy: &[u16
 
 // Whether both claims are within their reach.
 fn claims_near<T: Tariff>(tariff: &T, claims: &Claims<T::Amount>) -> bool
-    ensures {
-        result ≡ (nat_le (reach (T.Tariff.row claims.now.low)) most_claim
-            && nat_le (reach (T.Tariff.row claims.now.high)) most_claim)
-    }
+    ensures { result ≡ (nat_le (reach (T.Tariff.row claims.now.low)) most_claim
+        && nat_le (reach (T.Tariff.row claims.now.high)) most_claim) }
 {
     tariff.reach(claims.low) <= MOST_CLAIM && tariff.reach(claims.high) <= MOST_CLAIM
 }
@@ -148,11 +134,9 @@ fn certificate_holds<P: Plant, T: Tariff>(
     policy: &[u16],
     claims: &Claims<T::Amount>,
 ) -> Result<(), Refusal>
-    ensures {
-        result_err result
+    ensures { result_err result
         ≡ refusal (P.model plant.now) (T.scale tariff.now) (map T.Tariff.row table.now.amounts.now)
-            policy.now (T.Tariff.row claims.now.low) (T.Tariff.row claims.now.high)
-    }
+        policy.now (T.Tariff.row claims.now.low) (T.Tariff.row claims.now.high) }
 {
     if !level(plant, table, policy) {
         return Err(Refusal::WrongLength);
@@ -177,39 +161,24 @@ pub fn check<P: Plant, T: Tariff>(
     policy: &[u16],
     claims: Claims<T::Amount>,
 ) -> Result<Finding<T::Amount>, Refusal>
-    ensures verdict {
-        Verdict T.Tariff.row (P.model plant.now) (T.scale tariff.now) (map T.Tariff.row values.now)
-            policy.now claims.low claims.high result
-    }
+    ensures verdict { Verdict T.Tariff.row (P.model plant.now) (T.scale tariff.now) (map T.Tariff.row values.now)
+        policy.now claims.low claims.high result }
     // accepted exactly when sound
-    ensures exact {
-        IsOk result
+    ensures exact { IsOk result
         ↔ Sound (P.model plant.now) (T.scale tariff.now) (map T.Tariff.row values.now) policy.now
-            (T.Tariff.row claims.low) (T.Tariff.row claims.high)
-    }
+        (T.Tariff.row claims.low) (T.Tariff.row claims.high) }
     // what is refused is refused by a rule that is broken, at its place
-    ensures refused {
-        IfErr result (λ e.
-            RefusedAs (P.model plant.now) (T.scale tariff.now) (map T.Tariff.row values.now)
-                policy.now (T.Tariff.row claims.low) (T.Tariff.row claims.high)
-                (number_of e) (place_of e))
-    }
+    ensures refused { IfErr result (λ e.
+        RefusedAs (P.model plant.now) (T.scale tariff.now) (map T.Tariff.row values.now)
+        policy.now (T.Tariff.row claims.low) (T.Tariff.row claims.high)
+        (number_of e) (place_of e)) }
     // refused by a rule at a place exactly when that rule is broken there, and none before it
-    ensures refused_exactly {
-        (n p : ℕ) → IsRefused result n p
+    ensures refused_exactly { (n p : ℕ) → IsRefused result n p
         ↔ RefusedAs (P.model plant.now) (T.scale tariff.now) (map T.Tariff.row values.now)
-            policy.now (T.Tariff.row claims.low) (T.Tariff.row claims.high) n p
-    }
-    // where the least and the greatest gain are known: accepted exactly when the claims are no tighter
-    ensures no_tighter {
-        (l h : Row)
-        → Fitting (P.model plant.now) (map T.Tariff.row values.now) policy.now
-        → ClaimsNear (T.Tariff.row claims.low) (T.Tariff.row claims.high)
-        → Lowest (P.model plant.now) (T.scale tariff.now) (map T.Tariff.row values.now) l
-        → Highest (P.model plant.now) (T.scale tariff.now) (map T.Tariff.row values.now) policy.now h
-        → (IsOk result
-            ↔ NoTighter (T.scale tariff.now) (T.Tariff.row claims.low) (T.Tariff.row claims.high) l h)
-    }
+        policy.now (T.Tariff.row claims.low) (T.Tariff.row claims.high) n p }
+    // accepted exactly when the claims are no tighter than the recipe's
+    ensures no_tighter { AcceptsNoTighter (P.model plant.now) (T.scale tariff.now) (map T.Tariff.row values.now)
+        policy.now (T.Tariff.row claims.low) (T.Tariff.row claims.high) result }
 {
     let table = ValueTable::new(values);
     certificate_holds(plant, tariff, &table, policy, &claims)?;

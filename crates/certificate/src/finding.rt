@@ -18,17 +18,15 @@ pub struct Finding<A> {
     pub bottom: A,
 }
 
-// The first best value of a table. The table is asked by number, as first_best asks whatever it goes over.
+// The first best value of a table.
 pub(crate) fn extreme<T: Tariff>(
     aim: Aim,
     tariff: &T,
     table: &ValueTable<T::Amount>,
 ) -> Option<Choice<T::Amount>>
-    ensures {
-        option_map (pick T.Tariff.row) result
+    ensures { option_map (pick T.Tariff.row) result
         ≡ first_best (good aim (T.scale tariff.now))
-            (slice_get (map T.Tariff.row table.now.amounts.now)) (length table.now.amounts.now)
-    }
+        (slice_get (map T.Tariff.row table.now.amounts.now)) (length table.now.amounts.now) }
 {
     aim.first_best(tariff, table.amounts.len(), |s| table.value(s))
 }

@@ -21,7 +21,7 @@ use lookahead::best::{Aim, Choice};
 use lookahead::table::ValueTable;
 use lookahead::valued::ValuedPlant;
 
-// Refused by the first state whose portfolio is not feasible. The index is the state asked, and the place of the refusal.
+// Refused by the first state whose portfolio is not feasible. The index is the state, and the place of the refusal.
 fn policy_holds<P: Plant>(plant: &P, policy: &[u16]) -> Result<(), Refusal>
     ensures { result_err result ≡ first_fault (policy_fault (P.model plant.now) policy.now) (length policy.now) }
 {
@@ -35,41 +35,35 @@ fn policy_holds<P: Plant>(plant: &P, policy: &[u16]) -> Result<(), Refusal>
 
 // The least gain of a state, absent where no portfolio is feasible.
 fn state_low<P: Plant, T: Tariff>(valued: &ValuedPlant<P, T>, state: usize) -> Option<T::Amount>
-    ensures {
-        option_map T.Tariff.row result
+    ensures { option_map T.Tariff.row result
         ≡ state_low (P.model valued.now.plant.now) (T.scale valued.now.tariff.now)
-            (map T.Tariff.row valued.now.table.amounts.now) state
-    }
+        (map T.Tariff.row valued.now.table.amounts.now) state }
 {
     valued.least_gain(state).map(|choice| choice.amount)
 }
 
 // The least gain of all, the first by state and then by portfolio.
 fn lowest<P: Plant, T: Tariff>(valued: &ValuedPlant<P, T>) -> Option<Choice<T::Amount>>
-    ensures {
-        option_map (pick T.Tariff.row) result
+    ensures { option_map (pick T.Tariff.row) result
         ≡ first_best (cheaper (T.scale valued.now.tariff.now))
-            (state_low (P.model valued.now.plant.now) (T.scale valued.now.tariff.now)
-                (map T.Tariff.row valued.now.table.amounts.now))
-            (length valued.now.table.amounts.now)
-    }
+        (state_low (P.model valued.now.plant.now) (T.scale valued.now.tariff.now)
+        (map T.Tariff.row valued.now.table.amounts.now))
+        (length valued.now.table.amounts.now) }
 {
     let states = valued.table.amounts.len();
     Aim::Least.first_best(valued.tariff, states, |state| state_low(valued, state))
 }
 
-// The gain of a state's portfolio, absent where that is not feasible. The policy is asked by number, as first_best asks it.
+// The gain of a state's portfolio, absent where that is not feasible.
 fn policy_gain<P: Plant, T: Tariff>(
     valued: &ValuedPlant<P, T>,
     policy: &[u16],
     state: usize,
 ) -> Option<T::Amount>
-    ensures {
-        state < length policy.now
+    ensures { state < length policy.now
         → option_map T.Tariff.row result
-            ≡ policy_gain (P.model valued.now.plant.now) (T.scale valued.now.tariff.now)
-                (map T.Tariff.row valued.now.table.amounts.now) policy.now state
-    }
+        ≡ policy_gain (P.model valued.now.plant.now) (T.scale valued.now.tariff.now)
+        (map T.Tariff.row valued.now.table.amounts.now) policy.now state }
 {
     let portfolio = policy.get(state).copied()?;
     valued.gain(state, usize::from(portfolio))
@@ -80,13 +74,11 @@ fn highest<P: Plant, T: Tariff>(
     valued: &ValuedPlant<P, T>,
     policy: &[u16],
 ) -> Option<Choice<T::Amount>>
-    ensures {
-        option_map (pick T.Tariff.row) result
+    ensures { option_map (pick T.Tariff.row) result
         ≡ first_best (dearer (T.scale valued.now.tariff.now))
-            (policy_gain (P.model valued.now.plant.now) (T.scale valued.now.tariff.now)
-                (map T.Tariff.row valued.now.table.amounts.now) policy.now)
-            (length policy.now)
-    }
+        (policy_gain (P.model valued.now.plant.now) (T.scale valued.now.tariff.now)
+        (map T.Tariff.row valued.now.table.amounts.now) policy.now)
+        (length policy.now) }
 {
     Aim::Greatest.first_best(
         valued.tariff,
@@ -102,10 +94,8 @@ fn inputs_hold<P: Plant, T: Tariff>(
     table: &ValueTable<T::Amount>,
     policy: &[u16],
 ) -> Result<(), Refusal>
-    ensures {
-        result_err result ≡ recipe_refusal (P.model plant.now) (T.scale tariff.now)
-            (map T.Tariff.row table.now.amounts.now) policy.now
-    }
+    ensures { result_err result ≡ recipe_refusal (P.model plant.now) (T.scale tariff.now)
+        (map T.Tariff.row table.now.amounts.now) policy.now }
 {
     if !level(plant, table, policy) {
         return Err(Refusal::WrongLength);
@@ -122,38 +112,26 @@ pub fn recipe<P: Plant, T: Tariff>(
     values: &[T::Amount],
     policy: &[u16],
 ) -> Result<Claims<T::Amount>, Refusal>
-    ensures answer {
-        Recipe T.Tariff.row (P.model plant.now) (T.scale tariff.now) (map T.Tariff.row values.now)
-            policy.now result
-    }
+    ensures answer { Recipe T.Tariff.row (P.model plant.now) (T.scale tariff.now) (map T.Tariff.row values.now)
+        policy.now result }
     // there is a recipe exactly when the tables fit
-    ensures exact {
-        IsOk result ↔ Fitting (P.model plant.now) (map T.Tariff.row values.now) policy.now
-    }
+    ensures exact { IsOk result ↔ Fitting (P.model plant.now) (map T.Tariff.row values.now) policy.now }
     // what is refused is refused by a rule that is broken, at its place
-    ensures refused {
-        IfErr result (λ e.
-            RecipeRefusedAs (P.model plant.now) (T.scale tariff.now) (map T.Tariff.row values.now)
-                policy.now (number_of e) (place_of e))
-    }
+    ensures refused { IfErr result (λ e.
+        RecipeRefusedAs (P.model plant.now) (T.scale tariff.now) (map T.Tariff.row values.now)
+        policy.now (number_of e) (place_of e)) }
     // refused by a rule at a place exactly when that rule is broken there, and none before it
-    ensures refused_exactly {
-        (n p : ℕ) → IsRefused result n p
+    ensures refused_exactly { (n p : ℕ) → IsRefused result n p
         ↔ RecipeRefusedAs (P.model plant.now) (T.scale tariff.now) (map T.Tariff.row values.now)
-            policy.now n p
-    }
+        policy.now n p }
     // its own claims make a sound certificate
-    ensures sound {
-        IfOk result (λ c.
-            Sound (P.model plant.now) (T.scale tariff.now) (map T.Tariff.row values.now) policy.now
-                (T.Tariff.row c.low) (T.Tariff.row c.high))
-    }
+    ensures sound { IfOk result (λ c.
+        Sound (P.model plant.now) (T.scale tariff.now) (map T.Tariff.row values.now) policy.now
+        (T.Tariff.row c.low) (T.Tariff.row c.high)) }
     // and of all claims exactly those that are no tighter
-    ensures tightest {
-        IfOk result (λ c.
-            Tightest (P.model plant.now) (T.scale tariff.now) (map T.Tariff.row values.now)
-                policy.now (T.Tariff.row c.low) (T.Tariff.row c.high))
-    }
+    ensures tightest { IfOk result (λ c.
+        Tightest (P.model plant.now) (T.scale tariff.now) (map T.Tariff.row values.now)
+        policy.now (T.Tariff.row c.low) (T.Tariff.row c.high)) }
 {
     let table = ValueTable::new(values);
     inputs_hold(plant, tariff, &table, policy)?;

@@ -14,14 +14,14 @@ use interface::tariff::Tariff;
 /// A plant and a tariff with a value table within reach. It is lent to whatever asks for gains and look-aheads, which are
 /// there for the feasible portfolios and for no others. It is made as a literal where the reach is known.
 #[derive(Drop)]
-pub struct ValuedPlant<'a, P: Plant, T: Tariff> {
-    pub plant: &'a P,
-    pub tariff: &'a T,
-    pub table: ValueTable<'a, T::Amount>,
+pub struct ValuedPlant<'p, 't, 'v, P: Plant, T: Tariff> {
+    pub plant: &'p P,
+    pub tariff: &'t T,
+    pub table: ValueTable<'v, T::Amount>,
     pub ghost within: { Within (P.model plant.now) (map T.Tariff.row table.amounts.now) } by { within_prop (P.model plant.now) (map T.Tariff.row table.amounts.now) },
 }
 
-impl<'a, P: Plant, T: Tariff> ValuedPlant<'a, P, T> {
+impl<'p, 't, 'v, P: Plant, T: Tariff> ValuedPlant<'p, 't, 'v, P, T> {
     /// The look-ahead of a portfolio in a state.
     pub fn look_ahead(&self, state: usize, portfolio: usize) -> Option<T::Amount>
         ensures { Answers T.Tariff.row result ((P.model self.now.plant.now).feasible state portfolio)

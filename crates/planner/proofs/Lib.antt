@@ -1,5 +1,5 @@
-pub mod Claimed
 pub mod Fills
+pub mod Refused
 pub mod Shares
 pub mod Sweeping
 pub mod Unique

@@ -42,7 +42,9 @@ Answer row m t n b b' (Err TooManySweeps) = (most_sweeps < n) × (b' ≡ b)
 Answer row m t n b b' (Err WrongLength) = (n ≤ most_sweeps) × (Level m b → ⊥) × (b' ≡ b)
 Answer row m t n b b' (Err (BeyondReach s)) = (n ≤ most_sweeps) × Level m b × Halted row m t n s b'
 
--- The tables after an answer are the only ones: so many sweeps lead to no other values.
+-- So many sweeps lead to no other values than those of the plan, and where a value would be beyond reach to none at all.
 abbrev pub Only : {A : Type 0} → (A → Row) → Model → Scale → ℕ → Tables A → Result (Claims A) Refusal → Type 0
 Only row m t n b' (Ok c) = (vs : List Row) → Swept m t n vs → map row b'.values ≡ vs
-Only row m t n b' (Err e) = Unit {0}
+Only row m t n b' (Err TooManySweeps) = Unit {0}
+Only row m t n b' (Err WrongLength) = Unit {0}
+Only row m t n b' (Err (BeyondReach s)) = (vs : List Row) → Swept m t n vs → ⊥

@@ -1,19 +1,19 @@
 ghost use Rattle.std.specs.Prelude.{◌≡◌};
 ghost use Rattle.planner.specs.Refusals.{number_of, place_of};
 
-// Why there is no plan, with the place.
+/// Why there is no plan, with the place.
 #[derive(Clone, Copy, PartialEq, Eq, Debug)]
 pub enum Refusal {
-    // More sweeps than MOST_SWEEPS.
+    /// More sweeps than MOST_SWEEPS.
     TooManySweeps,
-    // A table's length is not the number of states.
+    /// A table's length is not the number of states.
     WrongLength,
-    // A sweep would leave the value of this state beyond its reach.
+    /// A sweep would leave the value of this state beyond its reach.
     BeyondReach(usize),
 }
 
-// Two numbers of one refusal: as two From they would be told apart only by the type that is wanted.
 impl Refusal {
+    /// The number of the rule that is broken.
     pub fn number(self) -> u32
         ensures { result ≡ number_of self }
     {
@@ -24,6 +24,7 @@ impl Refusal {
         }
     }
 
+    /// Where it is broken: a state, or 0 for a number of sweeps and a length.
     pub fn place(self) -> usize
         ensures { result ≡ place_of self }
     {

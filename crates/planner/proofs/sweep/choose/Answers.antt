@@ -8,9 +8,9 @@ use Rattle.planner.proofs.sweep.choose.Goals as goal
 pub loop-state-preserved : goal.loop-state-preserved
 loop-state-preserved g c =
     let row = g.T.Tariff.row in
-    let m = g.P.Plant.model c.args.plant.now in
-    let t = g.T.Tariff.scale c.args.tariff.now in
-    let vs = map row c.args.values.now in
+    let m = g.P.Plant.model c.args.valued.now.plant.now in
+    let t = g.T.Tariff.scale c.args.valued.now.tariff.now in
+    let vs = map row c.args.valued.now.table.amounts.now in
     let ps = c.loop-state.policy in
     let s = c.loop-state.state in
     let x = c.least_ahead.result.at in

@@ -4,4 +4,4 @@ use Rattle.planner.proofs.sweep.sweep_into.Given as goal
 
 abbrev pub invariant-loop-state : goal.invariant-loop-state
 invariant-loop-state g l =
-    (k : ℕ) → k < l.state → Fresh (g.P.Plant.model l.plant) (g.T.Tariff.scale l.tariff) (map g.T.Tariff.row l.values) (map g.T.Tariff.row l.working) k
+    (k : ℕ) → k < l.state → Fresh (g.P.Plant.model l.valued.plant.now) (g.T.Tariff.scale l.valued.tariff.now) (map g.T.Tariff.row l.valued.table.amounts.now) (map g.T.Tariff.row l.working) k

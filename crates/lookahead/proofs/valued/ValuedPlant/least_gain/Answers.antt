@@ -1,6 +1,6 @@
-use Rattle.std.proofs.Common.{map, subst, rules}
+use Rattle.std.proofs.Common.{◌≡◌, map, subst, rules}
 use Rattle.std.specs.Option.{option_map}
-use Rattle.lookahead.specs.Best.{FirstBest, cheaper, where_feasible}
+use Rattle.lookahead.specs.Best.{FirstBest, first_best, cheaper, where_feasible}
 use Rattle.lookahead.specs.Choices.{pick}
 use Rattle.lookahead.specs.Gains.{gain}
 use Rattle.lookahead.proofs.Bounds.{fits_map}
@@ -22,3 +22,14 @@ returns-clause-least g c =
     let fits = rows_fit m t scaled F (gain_fits m (g.met.P.Plant.lawful self.plant.now) t scaled vs self.within.long fit) s in
     let law = c.first_best.ensures.law (where_feasible m F s) (λ x r l p. answered row r (m.feasible s x) (F s x) (search rules)) fits in
     subst (λ n. FirstBest (cheaper t) (where_feasible m F s) n (option_map (pick row) c.first_best.result)) c.portfolios.ensures law
+
+pub returns-clause-is : goal.returns-clause-is
+returns-clause-is g c =
+    let self = c.args.self.now in
+    let m = g.P.Plant.model self.plant.now in
+    let t = g.T.Tariff.scale self.tariff.now in
+    let row = g.T.Tariff.row in
+    let F = gain m t (map row self.table.amounts.now) in
+    let s = c.args.state in
+    let is = c.first_best.ensures.is (where_feasible m F s) (λ x r l p. answered row r (m.feasible s x) (F s x) (search rules)) in
+    subst (λ n. option_map (pick row) c.first_best.result ≡ first_best (cheaper t) (where_feasible m F s) n) c.portfolios.ensures is
