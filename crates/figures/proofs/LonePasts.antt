@@ -122,7 +122,7 @@ module _ (rest : List (Option ℕ)) (lawful : Lawful (plant rest)) where
     differs = λ e. omega (arith, e);
     met = met;
     policy = policy_costs;
-    book = λ b. b.charges ∙ policy_costs;
+    book = λ b. b.as_rule ∙ policy_costs;
     rival = rival_costs;
     left = refl;
     right = refl;
