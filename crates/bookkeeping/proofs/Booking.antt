@@ -1,20 +1,22 @@
 -- What each call needs to be known of the book that it makes.
-use Rattle.std.proofs.Common.{◌≡◌, ℕ, ◌+◌, ◌<◌, ◌≤◌, ◌↔◌, true, false, Bool, cond, List, [], ◌∷◌, length, get_or, Some, None, ◌⊎◌, inl, inr, sym, refl, ap, ◌∙◌, subst, arith}
+use Rattle.std.proofs.Common.{◌≡◌, ℕ, ◌+◌, ◌<◌, ◌≤◌, true, false, Bool, cond, List, [], ◌∷◌, length, get_or, Some, None, ◌⊎◌, inl, inr, sym, refl, ap, ◌∙◌, subst, arith}
 use Rattle.std.proofs.Math.Logic.{∥∥₁_map, ∥∥₁_elim}
 use Rattle.std.specs.List.{slice_get}
 use Rattle.std.specs.Coded.{le_prop}
 use Rattle.std.proofs.lemmas.Option.{slice_get_cases}
 use Rattle.interface.specs.declared.plant.Bill.{Bill}
 use Rattle.interface.specs.declared.plant.Outcome.{Outcome}
-use Rattle.interface.specs.Limits.{most_windows, most_seconds, most_cents}
+use Rattle.interface.specs.Limits.{most_windows}
 use Rattle.interface.specs.Plants.{Model, Lawful, LawfulBill, named, bill_of, outcomes_of}
 use Rattle.bookkeeping.specs.declared.stage.Stage.TheVariants.{Open, Issued, OnAir}
-use Rattle.bookkeeping.specs.Books.{Account, Order, Airing, Book, opened, issued, on_air, fresh, aired, moved, Bounded}
-use Rattle.bookkeeping.specs.Calls.{MayIssue, EntryOf, ordered, IssueRefused, infeasible, MayReport, Reported, ReportRefused, not_allowed, no_outcome}
+use Rattle.bookkeeping.specs.Books.{Account, Order, Airing, Book, opened, issued, on_air, fresh, airing, aired, moved, Bounded}
+use Rattle.bookkeeping.specs.Calls.{MayIssue, ordered, IssueRefused, infeasible, MayReport, Reported, ReportRefused, no_outcome}
+use Rattle.bookkeeping.specs.Entries.{EntryOf}
 use Rattle.bookkeeping.specs.Log.{issue, carry_out, report, goes_on, refused}
 use Rattle.bookkeeping.specs.LookingBack.{Continues, GoesOn, IsAccountedFor, WasAllowed}
-use Rattle.bookkeeping.specs.Pasts.{Event, Past, HasPast, Lasting, made, was_issued, issue_was_refused, was_carried_out, was_reported, report_was_refused}
+use Rattle.bookkeeping.specs.Pasts.{Event, Past, Lasting, made, was_issued, issue_was_refused, was_carried_out, was_reported, report_was_refused}
 use Rattle.bookkeeping.proofs.Keeping.{kept}
+use Rattle.bookkeeping.proofs.Replies.{reported_may}
 
 -- a past is kept
 pub goes_on_so : (first : ℕ) (es : List Event) (b : Book) → Past first es b → GoesOn first es b
@@ -53,7 +55,7 @@ bill_absent m s x e = by_test (m.feasible s x) refl e
     by_test false so there = so
 
 -- an entry that is feasible may be issued
-pub entry_may : (m : Model) (a : Account) (ps : List ℕ) (x : ℕ) → EntryOf m a ps x → m.feasible a.state x ≡ true → MayIssue m a ps
+entry_may : (m : Model) (a : Account) (ps : List ℕ) (x : ℕ) → EntryOf m a ps x → m.feasible a.state x ≡ true → MayIssue m a ps
 entry_may m a ps x entry may = record {
   room = entry.room;
   state = entry.state;
@@ -62,7 +64,7 @@ entry_may m a ps x entry may = record {
 }
 
 -- the order that is made
-pub order_made : (m : Model) (a : Account) (ps : List ℕ) (x : ℕ) (b : Bill) → EntryOf m a ps x → bill_of m a.state x ≡ Some b
+order_made : (m : Model) (a : Account) (ps : List ℕ) (x : ℕ) (b : Bill) → EntryOf m a ps x → bill_of m a.state x ≡ Some b
     → MayIssue m a ps × (ordered m a ps ≡ record { account = a; portfolio = x; bill = b })
 order_made m a ps x b entry there =
     let bill = bill_there m a.state x b there in (
@@ -81,13 +83,13 @@ lasting_make m s lawful inside = record {
   past = ∣ (s, [], made m lawful inside) ∣₁;
 }
 
-pub lasting_issue : (m : Model) (a : Account) (ps : List ℕ) → Lawful m → Lasting (opened a) → MayIssue m a ps → Lasting (issued (ordered m a ps))
+lasting_issue : (m : Model) (a : Account) (ps : List ℕ) → Lawful m → Lasting (opened a) → MayIssue m a ps → Lasting (issued (ordered m a ps))
 lasting_issue m a ps lawful lasting may = record {
   bounded = record { windows = lasting.bounded.windows; seconds = lasting.bounded.seconds; cents = lasting.bounded.cents };
   past = ∥∥₁_map lasting.past (λ p. (p.0, record { call = issue m ps; reply = goes_on Issued } ∷ p.1, was_issued m ps p.2 lawful may));
 }
 
-pub lasting_carry_out : (o : Order) → Lasting (issued o) → Lasting (on_air (aired o))
+lasting_carry_out : (o : Order) → Lasting (issued o) → Lasting (on_air (aired o))
 lasting_carry_out o lasting = record {
   bounded = record {
     windows = ∥∥₁_elim lasting.past le_prop (λ p. let d = due p.0 p.1 o p.2 in omega arith);
@@ -97,14 +99,14 @@ lasting_carry_out o lasting = record {
   past = ∥∥₁_map lasting.past (λ p. (p.0, record { call = carry_out; reply = goes_on OnAir } ∷ p.1, was_carried_out p.2));
 }
 
-pub lasting_report : (m : Model) (w : Airing) (k : ℕ) (a : Account) → Lawful m → Lasting (on_air w) → Reported m w k a → Lasting (opened a)
+lasting_report : (m : Model) (w : Airing) (k : ℕ) (a : Account) → Lawful m → Lasting (on_air w) → Reported m w k a → Lasting (opened a)
 lasting_report m w k a lawful lasting told = record {
   bounded = subst Bounded (sym told.moves) (record { windows = lasting.bounded.windows; seconds = lasting.bounded.seconds; cents = lasting.bounded.cents });
   past = ∥∥₁_map lasting.past (λ p. (p.0, record { call = report m k; reply = goes_on Open } ∷ p.1, was_reported m k a p.2 lawful told));
 }
 
 -- and whatever past led to it goes on
-pub issue_goes_on : (m : Model) (a : Account) (ps : List ℕ) → Lawful m → MayIssue m a ps
+issue_goes_on : (m : Model) (a : Account) (ps : List ℕ) → Lawful m → MayIssue m a ps
     → Continues (opened a) (record { call = issue m ps; reply = goes_on Issued }) (issued (ordered m a ps))
 issue_goes_on m a ps lawful may first es past = goes_on_so first _ _ (was_issued m ps past lawful may)
 
@@ -112,10 +114,10 @@ pub no_issue_goes_on : (m : Model) (a : Account) (ps : List ℕ) (n p : ℕ) →
     → Continues (opened a) (record { call = issue m ps; reply = refused n p }) (opened a)
 no_issue_goes_on m a ps n p lawful why first es past = goes_on_so first _ _ (issue_was_refused m ps n p past lawful why)
 
-pub carry_out_goes_on : (o : Order) → Continues (issued o) (record { call = carry_out; reply = goes_on OnAir }) (on_air (aired o))
+carry_out_goes_on : (o : Order) → Continues (issued o) (record { call = carry_out; reply = goes_on OnAir }) (on_air (aired o))
 carry_out_goes_on o first es past = goes_on_so first _ _ (was_carried_out past)
 
-pub report_goes_on : (m : Model) (w : Airing) (k : ℕ) (a : Account) → Lawful m → Reported m w k a
+report_goes_on : (m : Model) (w : Airing) (k : ℕ) (a : Account) → Lawful m → Reported m w k a
     → Continues (on_air w) (record { call = report m k; reply = goes_on Open }) (opened a)
 report_goes_on m w k a lawful told first es past = goes_on_so first _ _ (was_reported m k a past lawful told)
 
@@ -124,7 +126,7 @@ pub no_report_goes_on : (m : Model) (w : Airing) (k n p : ℕ) → Lawful m → 
 no_report_goes_on m w k n p lawful why first es past = goes_on_so first _ _ (report_was_refused m k n p past lawful why)
 
 -- an outcome that is there was reported, and may be
-pub outcome_told : (m : Model) (w : Airing) (k : ℕ) (o : Outcome) → slice_get (outcomes_of m w.account.state w.portfolio) k ≡ Some o
+outcome_told : (m : Model) (w : Airing) (k : ℕ) (o : Outcome) → slice_get (outcomes_of m w.account.state w.portfolio) k ≡ Some o
     → Reported m w k (moved w.account o.next)
 outcome_told m w k o there = record { outcome = o; there = there; moves = refl }
 
@@ -138,3 +140,49 @@ outcome_absent m w k may none = no_outcome may (by_cases (slice_get_cases (outco
         → length (outcomes_of m w.account.state w.portfolio) ≤ k
     by_cases (inl here) = let there = here.2 in let z : ◌≡◌ {A = ℕ} 0 1 = cc in absurd (omega arith)
     by_cases (inr past) = past.0
+
+-- what is owed of an order that is made of an account
+pub record OrderMade (m : Model) (a : Account) (ps : List ℕ) (o : Order) : Type 0 where
+  pub lasting : Lasting (issued o)
+  pub goes_on : Continues (opened a) (record { call = issue m ps; reply = goes_on Issued }) (issued o)
+
+pub order_book : (m : Model) (a v : Account) (ps : List ℕ) (x : ℕ) (b : Bill) → Lawful m → v ≡ a → Lasting (opened v) → EntryOf m a ps x
+    → bill_of m a.state x ≡ Some b → OrderMade m a ps (record { account = v; portfolio = x; bill = b })
+order_book m a v ps x b lawful same lasting entry there =
+    let made = order_made m a ps x b entry there in
+    let value = made.1 ∙ ap (λ z. record { account = z; portfolio = x; bill = b }) (sym same) in
+    subst (OrderMade m a ps) value (record {
+      lasting = lasting_issue m a ps lawful (subst (λ z. Lasting (opened z)) same lasting) made.0;
+      goes_on = issue_goes_on m a ps lawful made.0;
+    })
+
+-- what is owed of a window that is carried out
+pub record CarriedOut (o : Order) (w : Airing) : Type 0 where
+  pub lasting : Lasting (on_air w)
+  pub goes_on : Continues (issued o) (record { call = carry_out; reply = goes_on OnAir }) (on_air w)
+
+pub carry_out_book : (o v : Order) (t c : ℕ) → v ≡ o → t ≡ v.bill.seconds → c ≡ v.bill.cents → Lasting (issued v)
+    → CarriedOut o (airing v.account.state (v.account.windows + 1) (v.account.seconds + t) (v.account.cents + c) v.portfolio)
+carry_out_book o v t c same seconds cents lasting =
+    let value = ap (λ z. airing v.account.state (v.account.windows + 1) (v.account.seconds + z) (v.account.cents + c) v.portfolio) seconds
+    ∙ ap (λ z. airing v.account.state (v.account.windows + 1) (v.account.seconds + v.bill.seconds) (v.account.cents + z) v.portfolio) cents
+    ∙ ap aired same in
+    subst (CarriedOut o) (sym value) (record { lasting = lasting_carry_out o (subst (λ z. Lasting (issued z)) same lasting); goes_on = carry_out_goes_on o })
+
+-- what is owed of an outcome that is reported
+pub record OutcomeMade (m : Model) (w : Airing) (k : ℕ) (a : Account) : Type 0 where
+  pub told : Reported m w k a
+  pub may : MayReport m w k
+  pub lasting : Lasting (opened a)
+  pub goes_on : Continues (on_air w) (record { call = report m k; reply = goes_on Open }) (opened a)
+
+pub outcome_book : (m : Model) (w v : Airing) (k : ℕ) (o : Outcome) → Lawful m → v ≡ w → Lasting (on_air v)
+    → slice_get (outcomes_of m w.account.state w.portfolio) k ≡ Some o → OutcomeMade m w k (moved v.account o.next)
+outcome_book m w v k o lawful same lasting there =
+    let told = outcome_told m w k o there in
+    subst (λ z. OutcomeMade m w k (moved z.account o.next)) (sym same) (record {
+      told = told;
+      may = reported_may m w k (moved w.account o.next) told;
+      lasting = lasting_report m w k (moved w.account o.next) lawful (subst (λ z. Lasting (on_air z)) same lasting) told;
+      goes_on = report_goes_on m w k (moved w.account o.next) lawful told;
+    })

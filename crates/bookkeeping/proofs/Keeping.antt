@@ -1,5 +1,5 @@
 -- What is kept of every past, by induction on it.
-use Rattle.std.proofs.Common.{◌≡◌, ◌≢◌, ℕ, zero, suc, ◌+◌, ◌<◌, ◌≤◌, ◌↔◌, true, false, Bool, cond, List, [], ◌∷◌, length, Some, None, sym, refl, ap, ◌∙◌, subst, arith}
+use Rattle.std.proofs.Common.{◌≡◌, ℕ, zero, suc, ◌+◌, ◌<◌, ◌≤◌, ◌↔◌, true, cond, List, [], ◌∷◌, Some, sym, refl, ap, ◌∙◌, subst, arith, None}
 use Rattle.std.specs.List.{filter, count_by, slice_get}
 use Rattle.std.specs.Option.{IfSome}
 use Rattle.std.proofs.lemmas.List.Sums.{sum_by-cons}
@@ -11,13 +11,13 @@ use Rattle.bookkeeping.specs.declared.stage.Stage.TheVariants.{Open, Issued, OnA
 use Rattle.bookkeeping.specs.Books.{Account, Order, Airing, Book, opened, issued, on_air, account_of, aired}
 use Rattle.bookkeeping.specs.Calls.{MayIssue, ordered, Reported, IssueRefused, full, no_state, wrong_length, infeasible, ReportRefused, not_allowed, no_outcome}
 use Rattle.bookkeeping.specs.Log.{Note, Log, start, Call, issue, carry_out, report, Reply, goes_on, refused, reply, after, after_reply, went_on, Agrees}
-use Rattle.bookkeeping.specs.LookingBack.{is_accepted, is_issue, is_order, is_carry_out, is_report, windows_of, TakesTurns, AccountFor, FullExactly, AllBeside, EachOf, NoneUnknown, orders_of, reports_of, IsOrdered, Ended, Made, MakesAt, Makes, Kept}
+use Rattle.bookkeeping.specs.LookingBack.{is_accepted, is_issue, is_order, is_carry_out, is_report, windows_of, TakesTurns, AccountFor, FullExactly, AllBeside, EachOf, NoneUnknown, orders_of, reports_of, IsOrdered, Ended, Made, MakesAt, Makes, Kept, last_order, IsNamed, HoldsNamed}
 use Rattle.bookkeeping.specs.Pasts.{Event, Past, made, was_issued, issue_was_refused, was_carried_out, was_reported, report_was_refused, log_of, EachAnswered}
 use Rattle.bookkeeping.proofs.Replies.{reported_may}
-use Rattle.bookkeeping.proofs.Mirrors.{Mirrors, Free, Out, Flying, Stepped, issue_done, issue_not_done, carried_out, reported, not_reported}
+use Rattle.bookkeeping.proofs.Mirrors.{Mirrors, Out, issue_done, issue_not_done, carried_out, reported, not_reported}
 
 -- the log goes with the book
-mirrored : (first : ℕ) (es : List Event) (b : Book) → Past first es b → EachAnswered first es × Mirrors first (log_of first es) b
+pub mirrored : (first : ℕ) (es : List Event) (b : Book) → Past first es b → EachAnswered first es × Mirrors first (log_of first es) b
 mirrored first es b (made m lawful inside) = (tt, record { notes = []; is = refl; sums = record { windows = refl; seconds = refl; cents = refl }; trail = refl })
 mirrored first es b (was_issued {es = earlier} {a = a} m ps before lawful may) =
     let so_far = mirrored first earlier (opened a) before in
@@ -163,6 +163,21 @@ full_exactly first es b (was_reported {es = earlier} {w = w} m k a before lawful
     ((λ asked. let z : ◌≡◌ {A = ℕ} 0 1 = cc in absurd (omega arith)), full_exactly first earlier (on_air w) before)
 full_exactly first es b (report_was_refused {es = earlier} {w = w} m k n p before lawful why) =
     ((λ asked. let z : ◌≡◌ {A = ℕ} 0 1 = cc in absurd (omega arith)), full_exactly first earlier (on_air w) before)
+
+-- what is held was named by the newest order
+names_more : (es : List Event) (e : Event) (s x : ℕ) → last_order (e ∷ es) ≡ last_order es → IsNamed es s x → IsNamed (e ∷ es) s x
+names_more es e s x same is = record { plant = is.plant; policy = is.policy; last = same ∙ is.last; entry = is.entry }
+
+held_named : (first : ℕ) (es : List Event) (b : Book) → Past first es b → HoldsNamed es b
+held_named first es b (made m lawful inside) = tt
+held_named first es b (was_issued {es = earlier} {a = a} m ps before lawful may) =
+    record { plant = m; policy = ps; last = refl; entry = refl }
+held_named first es b (issue_was_refused {es = earlier} {a = a} m ps n p before lawful why) = tt
+held_named first es b (was_carried_out {es = earlier} {o = o} before) =
+    names_more earlier _ o.account.state o.portfolio refl (held_named first earlier (issued o) before)
+held_named first es b (was_reported {es = earlier} {w = w} m k a before lawful told) = tt
+held_named first es b (report_was_refused {es = earlier} {w = w} m k n p before lawful why) =
+    names_more earlier _ w.account.state w.portfolio refl (held_named first earlier (on_air w) before)
 
 -- the past without its refused calls
 without : (first : ℕ) (es : List Event) (b : Book) → Past first es b → Past first (filter is_accepted es) b
@@ -329,6 +344,7 @@ kept first es b past =
       accounted = accounts_from first (log_of first es) b log.1;
       windows = counts.0;
       turns = counts.1;
+      held = held_named first es b past;
       full = full_exactly first es b past;
       without_refused = without first es b past;
       same_log = same_without first es log.0;

@@ -1,13 +1,13 @@
 -- What the log of a past says, stage by stage, of its book and of the window that is held.
-use Rattle.std.proofs.Common.{◌≡◌, ℕ, ◌+◌, ◌<◌, ◌≤◌, true, false, Bool, List, [], ◌∷◌, length, Option, Some, None, sym, refl, ap, ◌∙◌, subst, arith}
-use Rattle.std.specs.List.{slice_get, sum_by}
+use Rattle.std.proofs.Common.{◌≡◌, ℕ, List, ◌∷◌, length, Option, Some, None, sym, refl, ap, ◌∙◌, subst, arith}
+use Rattle.std.specs.List.{slice_get}
 use Rattle.std.proofs.lemmas.List.Sums.{sum_by-cons}
 use Rattle.interface.specs.Plants.{Model, named, outcomes_of}
 use Rattle.bookkeeping.specs.declared.stage.Stage.TheVariants.{Open, Issued, OnAir}
-use Rattle.bookkeeping.specs.Books.{Account, Order, Airing, Book, opened, issued, on_air, account_of, booked, aired, moved}
-use Rattle.bookkeeping.specs.Calls.{MayIssue, IssueRefused, ordered, MayReport, Reported, ReportRefused}
-use Rattle.bookkeeping.specs.Log.{Note, Log, start, Call, issue, carry_out, report, Reply, goes_on, refused, reply, after, after_reply, report_reply, noted_seconds, noted_cents, Agrees}
-use Rattle.bookkeeping.specs.LookingBack.{IsFeasible, LedTo, Trail, AccountFor}
+use Rattle.bookkeeping.specs.Books.{Account, Order, Airing, Book, opened, issued, on_air, booked, aired}
+use Rattle.bookkeeping.specs.Calls.{MayIssue, IssueRefused, ordered, Reported, ReportRefused}
+use Rattle.bookkeeping.specs.Log.{Note, Log, Call, issue, carry_out, report, Reply, goes_on, refused, reply, after, after_reply, report_reply, noted_seconds, noted_cents}
+use Rattle.bookkeeping.specs.LookingBack.{IsFeasible, Trail}
 use Rattle.bookkeeping.proofs.Replies.{says, issue_says, refusal_says, report_says, no_report_says, reported_may}
 
 -- an account's numbers are those of the notes

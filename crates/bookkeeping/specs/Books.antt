@@ -1,5 +1,5 @@
 -- What a book shows at each of its three stages.
-use Rattle.std.specs.Prelude.{◌≡◌, ℕ, ◌+◌, ◌*◌, ◌≤◌, Option, Some, None}
+use Rattle.std.specs.Prelude.{ℕ, ◌+◌, ◌*◌, ◌≤◌, Option, Some, None}
 use Rattle.interface.specs.declared.plant.Bill.{Bill}
 use Rattle.interface.specs.Limits.{most_windows, most_seconds, most_cents}
 

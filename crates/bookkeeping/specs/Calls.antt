@@ -3,8 +3,6 @@ use Rattle.std.specs.Prelude.{◌≡◌, ◌≢◌, ℕ, ◌<◌, ◌≤◌, tru
 use Rattle.interface.specs.declared.plant.Outcome.{Outcome}
 use Rattle.interface.specs.Limits.{most_windows}
 use Rattle.interface.specs.Plants.{Model, named, outcomes_of}
-use Rattle.bookkeeping.specs.declared.refusal.Refusal.{Refusal}
-use Rattle.bookkeeping.specs.Refusals.{number_of, place_of}
 use Rattle.bookkeeping.specs.Books.{Account, Order, Airing, moved}
 
 -- A book is made in a state of the plant, and refused in any other.
@@ -48,15 +46,3 @@ pub data ReportRefused (m : Model) (w : Airing) (k : ℕ) : ℕ → ℕ → Type
   not_allowed : m.feasible w.account.state w.portfolio ≡ false → ReportRefused m w k 21 w.account.state
   no_outcome : m.feasible w.account.state w.portfolio ≡ true → length (outcomes_of m w.account.state w.portfolio) ≤ k
       → ReportRefused m w k 23 k
-
--- The policy's entry for the state of a book that has a window left, in a state of the plant, where the policy has one entry for
--- each state.
-pub record EntryOf (m : Model) (a : Account) (ps : List ℕ) (x : ℕ) : Type 0 where
-  pub room : a.windows < most_windows
-  pub state : a.state < m.states
-  pub policy : length ps ≡ m.states
-  pub entry : x ≡ named ps a.state
-
--- Why there is no entry.
-abbrev pub NoEntry : Model → Account → List ℕ → Refusal → Type 0
-NoEntry m a ps r = IssueRefused m a ps (number_of r) (place_of r)

@@ -1,8 +1,10 @@
 pub mod Books
 pub mod Calls
+pub mod Entries
 pub mod Log
 pub mod LookingBack
 pub mod Pasts
 pub mod Refusals
 pub mod Results
+pub mod Runs
 pub mod Standings

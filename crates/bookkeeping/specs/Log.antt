@@ -1,5 +1,5 @@
 -- The log of a book, which goes by its notes alone.
-use Rattle.std.specs.Prelude.{◌≡◌, ℕ, Bool, true, List, [], ◌∷◌, length, Option, Some, None, ◌==◌, nat_lt, nat_le, if◌then◌else◌, slice_get, sum_by, option_map}
+use Rattle.std.specs.Prelude.{◌≡◌, ℕ, List, [], ◌∷◌, length, Option, Some, None, ◌==◌, nat_lt, nat_le, if◌then◌else◌, slice_get, sum_by, option_map}
 use Rattle.interface.specs.Limits.{most_windows}
 use Rattle.interface.specs.Plants.{Model, named, outcomes_of}
 use Rattle.interface.specs.declared.plant.Outcome.{Outcome}
@@ -35,12 +35,16 @@ pub data Reply : Type 0 where
   goes_on : Stage → Reply
   refused : ℕ → ℕ → Reply
 
+-- What an issue is told of a policy's entry for a state.
+abbrev pub entry_reply : Model → ℕ → ℕ → Reply
+entry_reply m s x = if m.feasible s x then goes_on Issued else refused 22 s
+
 -- What an issue is told.
 abbrev pub issue_reply : Model → List ℕ → Log → Reply
 issue_reply m ps l =
     if nat_le most_windows (length l.notes) then refused 24 0
     else if nat_le m.states l.state then refused 21 l.state
-    else if length ps == m.states then (if m.feasible l.state (named ps l.state) then goes_on Issued else refused 22 l.state)
+    else if length ps == m.states then entry_reply m l.state (named ps l.state)
     else refused 7 0
 
 -- What a report is told, of a portfolio that is held.
@@ -62,7 +66,9 @@ reply l c = reply_at l.stage l.held l c
 -- How the log goes on after a call that is not refused. An order is held: the plant, the state and the policy's entry for it.
 -- Carried out, it is a note. When its outcome is told, the log stands where that outcome leads and holds nothing.
 abbrev pub went_on : Log → Call → Log
-went_on l (issue m ps) = record { stage = Issued; state = l.state; held = Some (record { plant = m; state = l.state; portfolio = named ps l.state }); notes = l.notes }
+went_on l (issue m ps) =
+    let note : Note = record { plant = m; state = l.state; portfolio = named ps l.state } in
+    record { stage = Issued; state = l.state; held = Some note; notes = l.notes }
 went_on l carry_out = record { stage = OnAir; state = l.state; held = l.held; notes = with_held l.held l.notes }
   where
     with_held : Option Note → List Note → List Note

@@ -1,5 +1,5 @@
 -- What one finds who looks back on the past of a book, said without the log's steps.
-use Rattle.std.specs.Prelude.{◌≡◌, ◌≢◌, ℕ, ◌+◌, ◌<◌, ◌≤◌, ◌↔◌, true, Bool, false, List, [], ◌∷◌, length, Option, Some, None, ⊤, filter, count_by, slice_get}
+use Rattle.std.specs.Prelude.{◌≡◌, ◌≢◌, ℕ, ◌+◌, ◌<◌, ◌≤◌, ◌↔◌, true, Bool, false, List, [], ◌∷◌, Option, Some, None, ⊤, filter, count_by, slice_get}
 use Rattle.interface.specs.declared.plant.Outcome.{Outcome}
 use Rattle.interface.specs.Limits.{most_windows}
 use Rattle.interface.specs.Plants.{Model, Lawful, named, outcomes_of}
@@ -55,6 +55,28 @@ TakesTurns es (opened a) = (count_by is_order es ≡ windows_of es) × (windows_
 TakesTurns es (issued o) = (count_by is_order es ≡ windows_of es + 1) × (windows_of es ≡ count_by is_report es)
 TakesTurns es (on_air w) = (count_by is_order es ≡ windows_of es) × (windows_of es ≡ count_by is_report es + 1)
 
+-- The plant and the policy of the newest order that was accepted.
+abbrev pub last_order : List Event → Option (Model × List ℕ)
+last_order [] = None
+last_order (e ∷ es) = order_or e.call e.reply (last_order es)
+  where
+    order_or : Call → Reply → Option (Model × List ℕ) → Option (Model × List ℕ)
+    order_or (issue m ps) (goes_on s) earlier = Some (m, ps)
+    order_or c r earlier = earlier
+
+-- A portfolio is the one that the newest order's policy names for a state.
+pub record IsNamed (es : List Event) (s x : ℕ) : Type 0 where
+  pub plant : Model
+  pub policy : List ℕ
+  pub last : last_order es ≡ Some (plant, policy)
+  pub entry : x ≡ named policy s
+
+-- What a book holds was named by its newest order.
+abbrev pub HoldsNamed : List Event → Book → Type 0
+HoldsNamed es (opened a) = ⊤
+HoldsNamed es (issued o) = IsNamed es o.account.state o.portfolio
+HoldsNamed es (on_air w) = IsNamed es w.account.state w.portfolio
+
 -- A window's portfolio is feasible in its state beside its plant.
 abbrev pub IsFeasible : Note → Type 0
 IsFeasible w = w.plant.feasible w.state w.portfolio ≡ true
@@ -78,7 +100,8 @@ abbrev pub AccountFor : ℕ → List Note → Book → Type 0
 AccountFor first ws (opened a) = Trail first ws a.state
 AccountFor first ws (issued o) = Trail first ws o.account.state
 AccountFor first [] (on_air w) = ⊥
-AccountFor first (n ∷ ws) (on_air w) = IsFeasible n × (n.state ≡ w.account.state) × (n.portfolio ≡ w.portfolio) × Trail first ws n.state
+AccountFor first (n ∷ ws) (on_air w) =
+    IsFeasible n × (n.state ≡ w.account.state) × (n.portfolio ≡ w.portfolio) × Trail first ws n.state
 
 -- An issue is refused for want of a window exactly when so many windows as a book takes lie before it.
 abbrev pub FullExactly : List Event → Type 0
@@ -162,6 +185,7 @@ pub record Kept (first : ℕ) (es : List Event) (b : Book) : Type 0 where
   pub accounted : AccountFor first (log_of first es).notes b
   pub windows : (account_of b).windows ≡ windows_of es
   pub turns : TakesTurns es b
+  pub held : HoldsNamed es b
   pub full : FullExactly es
   -- a refused call could be left out, and nothing after it would differ
   pub without_refused : Past first (filter is_accepted es) b
@@ -184,4 +208,7 @@ Continues b e c = (first : ℕ) (es : List Event) → Past first es b → GoesOn
 -- Some plant allowed an order in the state in which its book stands, at the bill that it has.
 abbrev pub WasAllowed : Order → Type 0
 WasAllowed o =
-    ∥ ((m : Model) × Lawful m × (m.feasible o.account.state o.portfolio ≡ true) × (m.bill o.account.state o.portfolio ≡ o.bill)) ∥₁
+    ∥ ((m : Model)
+    × Lawful m
+    × (m.feasible o.account.state o.portfolio ≡ true)
+    × (m.bill o.account.state o.portfolio ≡ o.bill)) ∥₁

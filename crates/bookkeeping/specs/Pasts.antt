@@ -1,11 +1,10 @@
 -- The whole past of a book.
-use Rattle.std.specs.Prelude.{◌≡◌, ℕ, ◌+◌, ◌<◌, ◌≤◌, ◌↔◌, true, Bool, false, List, [], ◌∷◌, Option, Some, None, ⊤, filter}
-use Rattle.interface.specs.Limits.{most_windows}
+use Rattle.std.specs.Prelude.{◌≡◌, ℕ, ◌<◌, List, [], ◌∷◌, Some, ⊤}
 use Rattle.interface.specs.Plants.{Model, Lawful}
 use Rattle.bookkeeping.specs.declared.stage.Stage.TheVariants.{Open, Issued, OnAir}
 use Rattle.bookkeeping.specs.Books.{Account, Order, Airing, Book, opened, issued, on_air, fresh, aired, account_of, Bounded}
 use Rattle.bookkeeping.specs.Calls.{MayIssue, ordered, IssueRefused, Reported, ReportRefused}
-use Rattle.bookkeeping.specs.Log.{Note, Log, start, Call, issue, carry_out, report, Reply, goes_on, refused, reply, after, Agrees}
+use Rattle.bookkeeping.specs.Log.{Log, start, Call, issue, carry_out, report, Reply, goes_on, refused, reply, after}
 
 -- One call of a book, with what it was told.
 pub record Event : Type 0 where
@@ -17,15 +16,20 @@ pub record Event : Type 0 where
 -- each of them goes beside.
 pub data Past (first : ℕ) : List Event → Book → Type 0 where
   made : (m : Model) → Lawful m → first < m.states → Past first [] (opened (fresh first))
-  was_issued : {es : List Event} {a : Account} (m : Model) (ps : List ℕ) → Past first es (opened a) → Lawful m → MayIssue m a ps
+  was_issued : {es : List Event} {a : Account} (m : Model) (ps : List ℕ)
+      → Past first es (opened a) → Lawful m → MayIssue m a ps
       → Past first (record { call = issue m ps; reply = goes_on Issued } ∷ es) (issued (ordered m a ps))
-  issue_was_refused : {es : List Event} {a : Account} (m : Model) (ps : List ℕ) (n p : ℕ) → Past first es (opened a) → Lawful m → IssueRefused m a ps n p
+  issue_was_refused : {es : List Event} {a : Account} (m : Model) (ps : List ℕ) (n p : ℕ)
+      → Past first es (opened a) → Lawful m → IssueRefused m a ps n p
       → Past first (record { call = issue m ps; reply = refused n p } ∷ es) (opened a)
-  was_carried_out : {es : List Event} {o : Order} → Past first es (issued o)
+  was_carried_out : {es : List Event} {o : Order}
+      → Past first es (issued o)
       → Past first (record { call = carry_out; reply = goes_on OnAir } ∷ es) (on_air (aired o))
-  was_reported : {es : List Event} {w : Airing} (m : Model) (k : ℕ) (a : Account) → Past first es (on_air w) → Lawful m → Reported m w k a
+  was_reported : {es : List Event} {w : Airing} (m : Model) (k : ℕ) (a : Account)
+      → Past first es (on_air w) → Lawful m → Reported m w k a
       → Past first (record { call = report m k; reply = goes_on Open } ∷ es) (opened a)
-  report_was_refused : {es : List Event} {w : Airing} (m : Model) (k n p : ℕ) → Past first es (on_air w) → Lawful m → ReportRefused m w k n p
+  report_was_refused : {es : List Event} {w : Airing} (m : Model) (k n p : ℕ)
+      → Past first es (on_air w) → Lawful m → ReportRefused m w k n p
       → Past first (record { call = report m k; reply = refused n p } ∷ es) (on_air w)
 
 -- Some past leads to a book.

@@ -1,7 +1,6 @@
 -- A book at any stage, and one call of it.
-use Rattle.std.specs.Prelude.{◌≡◌, ℕ, Bool, true, false, Option, Some, None}
+use Rattle.std.specs.Prelude.{◌≡◌, Bool, true, false, Option, Some, None}
 use Rattle.interface.specs.Plants.{Model}
-use Rattle.bookkeeping.specs.declared.stage.Stage.{Stage}
 use Rattle.bookkeeping.specs.declared.stage.Stage.TheVariants as stage
 use Rattle.bookkeeping.specs.declared.standing.Standing.{Standing}
 use Rattle.bookkeeping.specs.declared.standing.Standing.TheVariants.{Open, Issued, OnAir}
@@ -9,7 +8,7 @@ use Rattle.bookkeeping.specs.declared.standing.Call as asking
 use Rattle.bookkeeping.specs.declared.standing.Call.TheVariants.{Issue, CarryOut, Report}
 use Rattle.bookkeeping.specs.declared.standing.Answer.{Answer}
 use Rattle.bookkeeping.specs.declared.standing.Answer.TheVariants.{Next, Refused}
-use Rattle.bookkeeping.specs.Books.{Account, Order, Airing, Book, opened, issued, on_air, aired}
+use Rattle.bookkeeping.specs.Books.{Account, Book, opened, issued, on_air, aired}
 use Rattle.bookkeeping.specs.Calls.{MayIssue, ordered, IssueRefused, MayReport, Reported, ReportRefused}
 use Rattle.bookkeeping.specs.Log.{Call, issue, carry_out, report, Reply, goes_on, refused}
 use Rattle.bookkeeping.specs.Pasts.{Event}

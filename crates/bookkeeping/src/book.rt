@@ -1,7 +1,8 @@
 ghost use Rattle.std.specs.Prelude.{◌≡◌, ℕ, ◌<◌, ◌↔◌, [], true, IsOk, IfOk, IfErr};
 ghost use Rattle.interface.specs.Plants.{Model, named};
 ghost use Rattle.bookkeeping.specs.Books.{Account, Order, Airing, opened, issued, on_air, fresh, aired};
-ghost use Rattle.bookkeeping.specs.Calls.{MakeRefused, MayIssue, EntryOf, NoEntry, ordered, IssueRefused, MayReport, Reported, ReportRefused};
+ghost use Rattle.bookkeeping.specs.Calls.{MakeRefused, MayIssue, ordered, IssueRefused, MayReport, Reported, ReportRefused};
+ghost use Rattle.bookkeeping.specs.Entries.{EntryOf, NoEntry};
 ghost use Rattle.bookkeeping.specs.LookingBack.{Continues, GoesOn, IsAccountedFor, WasAllowed};
 ghost use Rattle.bookkeeping.specs.Results.{IsNotMade, IsRefused, issue_event, carry_out_event, report_event, after_issue, after_report};
 
@@ -35,7 +36,8 @@ impl Open {
     pub fn make<P: Plant>(plant: &P, state: usize) -> Result<Open, Refusal>
         ensures made { IsOk result ↔ (state < (P.model plant.now).states) }
         ensures fresh { IfOk result (λ book. book ≡ fresh state) }
-        ensures refused { (n p : ℕ) → IsNotMade result n p ↔ MakeRefused (P.model plant.now) state n p }
+        ensures refused { (n p : ℕ) →
+            IsNotMade result n p ↔ MakeRefused (P.model plant.now) state n p }
         ensures past { IfOk result (λ book. GoesOn state [] (opened book)) }
     {
         if state >= plant.states() {
@@ -49,9 +51,10 @@ impl Open {
         })
     }
 
-    /// The state in which the book stands.
+    /// The state in which the book stands. Some past accounts for the book.
     pub fn state(&self) -> usize
-        ensures { result ≡ self.now.state }
+        ensures state { result ≡ self.now.state }
+        ensures accounted { IsAccountedFor (opened self.now) }
     {
         self.state
     }
@@ -77,7 +80,8 @@ impl Open {
         self.cents
     }
 
-    // The policy's portfolio for the state, if a window is left and the policy has one entry for each state of the plant.
+    // The policy's portfolio for the state, if a window is left and the policy has an entry for
+    // each state of the plant.
     fn entry<P: Plant>(&self, plant: &P, policy: &[u16]) -> Result<u16, Refusal>
         ensures entry { IfOk result (EntryOf (P.model plant.now) self.now policy.now) }
         ensures refused { IfErr result (NoEntry (P.model plant.now) self.now policy.now) }
@@ -98,7 +102,8 @@ impl Open {
     pub fn issue<P: Plant>(self, plant: &P, policy: &[u16]) -> Result<Issued, Refused<Open>>
         ensures done { IsOk result ↔ MayIssue (P.model plant.now) self policy.now }
         ensures order { IfOk result (λ book. book ≡ ordered (P.model plant.now) self policy.now) }
-        ensures refused { (n p : ℕ) → IsRefused result n p ↔ IssueRefused (P.model plant.now) self policy.now n p }
+        ensures refused { (n p : ℕ) →
+            IsRefused result n p ↔ IssueRefused (P.model plant.now) self policy.now n p }
         ensures kept { IfErr result (λ r. r.book ≡ self) }
         ensures past { Continues (opened self) (issue_event (P.model plant.now) policy.now result)
             (after_issue result) }
@@ -143,7 +148,8 @@ impl Model for Issued {
 
     ghost view = { λ b. order b.state b.windows b.seconds b.cents b.portfolio b.bill };
 
-    ghost invariant = { λ b. Lasting (issued (order b.state b.windows b.seconds b.cents b.portfolio b.bill)) };
+    ghost invariant = { λ b.
+        Lasting (issued (order b.state b.windows b.seconds b.cents b.portfolio b.bill)) };
 }
 
 impl Issued {
@@ -163,9 +169,10 @@ impl Issued {
         }
     }
 
-    /// The state in which the book stands.
+    /// The state in which the book stands. Some past accounts for the book.
     pub fn state(&self) -> usize
-        ensures { result ≡ self.now.account.state }
+        ensures state { result ≡ self.now.account.state }
+        ensures accounted { IsAccountedFor (issued self.now) }
     {
         self.state
     }
@@ -224,7 +231,8 @@ impl Model for OnAir {
 
     ghost view = { λ b. airing b.state b.windows b.seconds b.cents b.portfolio };
 
-    ghost invariant = { λ b. Lasting (on_air (airing b.state b.windows b.seconds b.cents b.portfolio)) };
+    ghost invariant = { λ b.
+        Lasting (on_air (airing b.state b.windows b.seconds b.cents b.portfolio)) };
 }
 
 impl OnAir {
@@ -232,7 +240,8 @@ impl OnAir {
     pub fn report<P: Plant>(self, plant: &P, outcome: usize) -> Result<Open, Refused<OnAir>>
         ensures done { IsOk result ↔ MayReport (P.model plant.now) self outcome }
         ensures reported { IfOk result (Reported (P.model plant.now) self outcome) }
-        ensures refused { (n p : ℕ) → IsRefused result n p ↔ ReportRefused (P.model plant.now) self outcome n p }
+        ensures refused { (n p : ℕ) →
+            IsRefused result n p ↔ ReportRefused (P.model plant.now) self outcome n p }
         ensures kept { IfErr result (λ r. r.book ≡ self) }
         ensures past { Continues (on_air self) (report_event (P.model plant.now) outcome result)
             (after_report result) }
@@ -257,9 +266,10 @@ impl OnAir {
         }
     }
 
-    /// The state in which the window was carried out.
+    /// The state in which the window was carried out. Some past accounts for the book.
     pub fn state(&self) -> usize
-        ensures { result ≡ self.now.account.state }
+        ensures state { result ≡ self.now.account.state }
+        ensures accounted { IsAccountedFor (on_air self.now) }
     {
         self.state
     }

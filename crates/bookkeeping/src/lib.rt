@@ -3,5 +3,6 @@
 
 pub mod book;
 pub mod refusal;
+pub mod run;
 pub mod stage;
 pub mod standing;

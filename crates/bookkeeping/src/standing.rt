@@ -42,26 +42,19 @@ pub enum Answer {
 }
 
 impl Standing {
-    /// One call of the book. A call that does not fit its stage has no answer and leaves the book as it is.
+    /// One call of the book. A call that does not fit its stage has no answer and leaves the book
+    /// as it is.
     pub fn call<P: Plant>(self, plant: &P, call: &Call) -> (Standing, Option<Answer>)
-        ensures fits {
-            IsSome result.1 ↔ (fits (book_of self) (asked (P.model plant.now) call.now) ≡ true)
-        }
-        ensures answered {
-            Answered (book_of self) (asked (P.model plant.now) call.now) result.1
-            (book_of result.0)
-        }
-        ensures past {
-            IfSome result.1 (λ answer. Continues (book_of self)
-            (event_of (asked (P.model plant.now) call.now) answer) (book_of result.0))
-        }
+        ensures fits { IsSome result.1 ↔
+            (fits (book_of self) (asked (P.model plant.now) call.now) ≡ true) }
+        ensures answered { Answered (book_of self) (asked (P.model plant.now) call.now) result.1
+            (book_of result.0) }
+        ensures past { IfSome result.1 (λ answer. Continues (book_of self)
+            (event_of (asked (P.model plant.now) call.now) answer) (book_of result.0)) }
     {
         match (self, call) {
             (Standing::Open(book), Call::Issue(policy)) => match book.issue(plant, policy) {
-                Ok(next) => (
-                    Standing::Issued(next),
-                    Some(Answer::Next(Stage::Issued)),
-                ),
+                Ok(next) => (Standing::Issued(next), Some(Answer::Next(Stage::Issued))),
                 Err(refused) => (
                     Standing::Open(refused.book),
                     Some(Answer::Refused(refused.why)),
@@ -72,10 +65,7 @@ impl Standing {
                 Some(Answer::Next(Stage::OnAir)),
             ),
             (Standing::OnAir(book), Call::Report(outcome)) => match book.report(plant, *outcome) {
-                Ok(next) => (
-                    Standing::Open(next),
-                    Some(Answer::Next(Stage::Open)),
-                ),
+                Ok(next) => (Standing::Open(next), Some(Answer::Next(Stage::Open))),
                 Err(refused) => (
                     Standing::OnAir(refused.book),
                     Some(Answer::Refused(refused.why)),

@@ -1,15 +1,13 @@
 // The check of a certificate.
 ghost use Rattle.std.specs.Prelude.{◌≡◌, ◌↔◌, ℕ, List, Some, ◌&&◌, map, length, ◌==◌, nat_le, IsOk, IfErr};
 ghost use Rattle.std.specs.Result.{result_err};
-ghost use Rattle.interface.specs.Rows.{Row, reach};
+ghost use Rattle.interface.specs.Rows.{reach};
 ghost use Rattle.interface.specs.Limits.{most_claim};
 ghost use Rattle.interface.specs.Plants.{bill_of, named};
 ghost use Rattle.lookahead.specs.Gains.{gain};
 ghost use Rattle.certificate.specs.Certificates.{Sound};
-ghost use Rattle.certificate.specs.ExactClaims.{NoTighter};
+ghost use Rattle.certificate.specs.ExactClaims.{AcceptsNoTighter};
 ghost use Rattle.certificate.specs.Findings.{Verdict};
-ghost use Rattle.certificate.specs.Reasons.{ClaimsNear};
-ghost use Rattle.certificate.specs.Recipes.{Lowest, Highest, Fitting};
 ghost use Rattle.certificate.specs.RefusedAs.{RefusedAs, IsRefused};
 ghost use Rattle.certificate.specs.Refusals.{refusal, first_fault, value_fault, state_fault, number_of, place_of};
 
@@ -178,14 +176,9 @@ pub fn check<P: Plant, T: Tariff>(
     ensures refused_exactly { (n p : ℕ) → IsRefused result n p
         ↔ RefusedAs (P.model plant.now) (T.scale tariff.now) (map T.Tariff.row values.now)
         policy.now (T.Tariff.row claims.low) (T.Tariff.row claims.high) n p }
-    // where the least and the greatest gain are known: accepted exactly when the claims are no tighter
-    ensures no_tighter { (l h : Row)
-        → Fitting (P.model plant.now) (map T.Tariff.row values.now) policy.now
-        → ClaimsNear (T.Tariff.row claims.low) (T.Tariff.row claims.high)
-        → Lowest (P.model plant.now) (T.scale tariff.now) (map T.Tariff.row values.now) l
-        → Highest (P.model plant.now) (T.scale tariff.now) (map T.Tariff.row values.now) policy.now h
-        → (IsOk result
-        ↔ NoTighter (T.scale tariff.now) (T.Tariff.row claims.low) (T.Tariff.row claims.high) l h) }
+    // accepted exactly when the claims are no tighter than the recipe's
+    ensures no_tighter { AcceptsNoTighter (P.model plant.now) (T.scale tariff.now) (map T.Tariff.row values.now)
+        policy.now (T.Tariff.row claims.low) (T.Tariff.row claims.high) result }
 {
     let table = ValueTable::new(values);
     certificate_holds(plant, tariff, &table, policy, &claims)?;

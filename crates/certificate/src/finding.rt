@@ -18,7 +18,7 @@ pub struct Finding<A> {
     pub bottom: A,
 }
 
-// The first best value of a table. The table is asked by number, as first_best asks whatever it goes over.
+// The first best value of a table.
 pub(crate) fn extreme<T: Tariff>(
     aim: Aim,
     tariff: &T,

@@ -21,7 +21,7 @@ use lookahead::best::{Aim, Choice};
 use lookahead::table::ValueTable;
 use lookahead::valued::ValuedPlant;
 
-// Refused by the first state whose portfolio is not feasible. The index is the state asked, and the place of the refusal.
+// Refused by the first state whose portfolio is not feasible. The index is the state, and the place of the refusal.
 fn policy_holds<P: Plant>(plant: &P, policy: &[u16]) -> Result<(), Refusal>
     ensures { result_err result ≡ first_fault (policy_fault (P.model plant.now) policy.now) (length policy.now) }
 {
@@ -54,7 +54,7 @@ fn lowest<P: Plant, T: Tariff>(valued: &ValuedPlant<P, T>) -> Option<Choice<T::A
     Aim::Least.first_best(valued.tariff, states, |state| state_low(valued, state))
 }
 
-// The gain of a state's portfolio, absent where that is not feasible. The policy is asked by number, as first_best asks it.
+// The gain of a state's portfolio, absent where that is not feasible.
 fn policy_gain<P: Plant, T: Tariff>(
     valued: &ValuedPlant<P, T>,
     policy: &[u16],

@@ -16,7 +16,6 @@ pub enum Refusal {
     HighBroken(usize),
 }
 
-// Two numbers of one refusal, here as in the other crates: as `From` they would be told apart only by the type that is wanted.
 impl Refusal {
     /// The number of the rule that is broken.
     pub fn number(self) -> u32

@@ -1,18 +1,18 @@
 -- What policies cost against any rule that can play as long.
-use Rattle.std.proofs.Common.{◌≡◌, ℕ, zero, suc, ◌+◌, ◌^◌, ◌≤◌, ◌<◌, Bool, true, List, [], ◌∷◌, ◌++◌, length, Some, None, Option, sym, refl, ap, ◌∙◌, subst, arith}
+use Rattle.std.proofs.Common.{◌≡◌, ℕ, zero, suc, ◌^◌, ◌<◌, true, List, [], ◌∷◌, ◌++◌, length, Some, None, Option, sym, refl, ap, ◌∙◌, subst, arith}
 use Rattle.std.specs.List.{slice_get}
-use Rattle.std.proofs.lemmas.List.{length-replicate, length-append}
+use Rattle.std.proofs.lemmas.List.{length-replicate}
 use Rattle.std.proofs.lemmas.Option.{slice_get-get_or, get_or_from_slice_get}
 use Rattle.interface.specs.declared.plant.Bill.{Bill}
 use Rattle.interface.specs.declared.plant.Outcome.{Outcome}
 use Rattle.interface.specs.Limits.{whole}
-use Rattle.interface.specs.Plants.{Model, Lawful, outcomes_of, named, Inside}
+use Rattle.interface.specs.Plants.{Model, Lawful, outcomes_of, named}
 use Rattle.interface.specs.Rows.{Row, zeros, plus, minus, times}
 use Rattle.interface.specs.Tariffs.{Scale, LawfulScale, AtMost, Fit, price}
 use Rattle.lookahead.specs.Gains.{value_of, expected, gain}
 use Rattle.lookahead.proofs.Bounds.{EachFit, length_plus, length_times}
 use Rattle.certificate.specs.Certificates.{Sound, Top, Bottom}
-use Rattle.following.specs.Rules.{Met, Rule, Plays, lists, weight, cost, cost_behind, costs, weighed}
+use Rattle.following.specs.Rules.{Met, Rule, Plays, lists, weight, cost, cost_behind, costs}
 use Rattle.following.specs.Promises.{Policies, by_policies, allowance}
 use Rattle.following.proofs.Groups.{Ordered, backwards, gained_least, gained_most, from_halves}
 use Rattle.following.proofs.Weighing.{over}
@@ -25,10 +25,12 @@ pub policies_play : (m : Model) → Lawful m → (ps : Policies) → ((j s : ℕ
 unfolding Plays
 policies_play m lawful ps feasible zero met s l = tt
 policies_play m lawful ps feasible (suc n) met s l =
-    let here = feasible (length met) s l in
-    (here, λ k o there some.
-      policies_play m lawful ps feasible n (met ++ (s, k) ∷ []) o.next
-      (inside_at m.states (m.outcomes s (named (ps (length met)) s)) k o (lawful.spread s (named (ps (length met)) s) here).inside there))
+    let here = feasible (length met) s l in (
+      here,
+      λ k o there some.
+          policies_play m lawful ps feasible n (met ++ (s, k) ∷ []) o.next
+          (inside_at m.states (m.outcomes s (named (ps (length met)) s)) k o (lawful.spread s (named (ps (length met)) s) here).inside there),
+    )
 
 module _ (m : Model) (t : Scale) (scaled : LawfulScale t) where
   pub price_fits : (b : Bill) → length (price t b) ≡ t.places
@@ -99,7 +101,7 @@ module _ (m : Model) (t : Scale) (scaled : LawfulScale t) where
 
     book : (ps : Policies) → ((j : ℕ) → Sound m t vs (ps j) low high) → (n s : ℕ) → s < m.states
         → order.at_most ((rows t.places).times whole ((rows t.places).plus (all_lists (rows t.places) m (by_policies ps) (spent (by_policies ps)) n [] s) ((rows t.places).times (whole ^ n) (bottom, bottom_fits))))
-            ((rows t.places).times (whole ^ n) ((rows t.places).plus (own s) ((rows t.places).times n (high, high_fits)))) ≡ true
+        ((rows t.places).times (whole ^ n) ((rows t.places).plus (own s) ((rows t.places).times n (high, high_fits)))) ≡ true
     book ps sound n s l =
         half m lawful (by_policies ps) (rows t.places) order (bottom, bottom_fits) (high, high_fits) (sized_value t vs fit) priced (spent (by_policies ps))
         (spent_none (by_policies ps)) (spent_more (by_policies ps))
@@ -111,7 +113,7 @@ module _ (m : Model) (t : Scale) (scaled : LawfulScale t) where
 
     rival : (ps : List ℕ) → Sound m t vs ps low high → (r : Rule) (n s : ℕ) → s < m.states → Plays m r n [] s
         → order.at_most ((rows t.places).times (whole ^ n) ((rows t.places).plus (own s) ((rows t.places).times n (low, low_fits))))
-            ((rows t.places).times whole ((rows t.places).plus (all_lists (rows t.places) m r (spent r) n [] s) ((rows t.places).times (whole ^ n) (top, top_fits)))) ≡ true
+        ((rows t.places).times whole ((rows t.places).plus (all_lists (rows t.places) m r (spent r) n [] s) ((rows t.places).times (whole ^ n) (top, top_fits)))) ≡ true
     rival ps sound r n s l plays =
         half m lawful r (rows t.places) (backwards order) (top, top_fits) (low, low_fits) (sized_value t vs fit) priced (spent r)
         (spent_none r) (spent_more r)

@@ -1,5 +1,5 @@
 -- How a book goes through a list: where it comes to, and that its totals grow by what the list costs.
-use Rattle.std.proofs.Common.{◌≡◌, ℕ, zero, suc, ◌+◌, ◌-◌, ◌≤◌, ◌<◌, true, List, [], ◌∷◌, ◌++◌, length, Some, None, Option, sym, refl, ap, ◌∙◌, subst, arith}
+use Rattle.std.proofs.Common.{◌≡◌, ℕ, suc, ◌+◌, ◌-◌, ◌≤◌, ◌<◌, true, List, [], ◌∷◌, ◌++◌, length, Some, None, Option, sym, refl, ap, ◌∙◌, subst, arith}
 use Rattle.std.specs.List.{slice_get}
 use Rattle.std.proofs.lemmas.List.{length-append, length-replicate}
 use Rattle.interface.specs.declared.plant.Bill.{Bill}
@@ -8,12 +8,10 @@ use Rattle.interface.specs.Limits.{most_windows}
 use Rattle.interface.specs.Plants.{Model, Lawful, outcomes_of, named}
 use Rattle.interface.specs.Rows.{Row, zeros, plus, times}
 use Rattle.interface.specs.Tariffs.{Scale, LawfulScale, price}
-use Rattle.bookkeeping.specs.Books.{Account, booked, moved, aired}
-use Rattle.bookkeeping.specs.Calls.{MayIssue, ordered, Reported}
+use Rattle.bookkeeping.specs.Books.{Account, booked, moved}
 use Rattle.following.specs.Rules.{Met, CanMeet, cost, cost_behind, weighed}
 use Rattle.following.specs.Promises.{Policies, by_policies, GoesThrough, grown}
 use Rattle.lookahead.proofs.Bounds.{plus_zeros}
-use Rattle.following.proofs.Bounding.{price_fits}
 use Rattle.following.proofs.Groups.{swap_middle, times_add}
 use Rattle.following.proofs.Halves.{inside_at, outcomes_there}
 use Rattle.following.proofs.Sized.{Sized, rows, times_nothing}
@@ -127,9 +125,10 @@ module _ (m : Model) (lawful : Lawful m) (ps : Policies) where
       let c' = moved (window m ps (length met) a) o.next in
       let same : c ≡ c' = (h.2).moves in
       let rest = subst (λ z. GoesThrough m ps (suc (length met)) z ks b) same h.3 in
-      let more = gone ks (met ++ (s, k) ∷ []) c' b (subst (λ j. GoesThrough m ps j c' ks b) (sym e) rest) in
-      ((o, there, more.0),
-        more.1 ∙ ap (λ j. run m ps j c' ks) e ∙ ap (λ z. behind (window m ps (length met) a) z (λ d. run m ps (suc (length met)) d ks)) (sym there))
+      let more = gone ks (met ++ (s, k) ∷ []) c' b (subst (λ j. GoesThrough m ps j c' ks b) (sym e) rest) in (
+        (o, there, more.0),
+        more.1 ∙ ap (λ j. run m ps j c' ks) e ∙ ap (λ z. behind (window m ps (length met) a) z (λ d. run m ps (suc (length met)) d ks)) (sym there),
+      )
 
   module _ (long : (j : ℕ) → length (ps j) ≡ m.states) (feasible : (j s : ℕ) → s < m.states → m.feasible s (named (ps j) s) ≡ true) where
     -- what can be met, with room for it, is gone through
@@ -145,8 +144,9 @@ module _ (m : Model) (lawful : Lawful m) (ps : Policies) where
         let e : length (met ++ (s, k) ∷ []) ≡ suc j = length-append met ((s, k) ∷ []) ∙ (let d : length met + 1 ≡ suc (length met) = omega arith in d) in
         let inside = inside_at m.states (m.outcomes s (named (ps j) s)) k o (lawful.spread s (named (ps j) s) here).inside
         (ap (λ z. slice_get z k) (sym (outcomes_there m s (named (ps j) s) here)) ∙ can.1) in
-        let rest = subst (λ i. GoesThrough m ps i c ks (run m ps i c ks)) e (goes ks (met ++ (s, k) ∷ []) c inside (omega arith) can.2) in
-        (record { room = omega arith; state = l; policy = long j; feasible = here },
+        let rest = subst (λ i. GoesThrough m ps i c ks (run m ps i c ks)) e (goes ks (met ++ (s, k) ∷ []) c inside (omega arith) can.2) in (
+          record { room = omega arith; state = l; policy = long j; feasible = here },
           c,
           record { outcome = o; there = can.1; moves = refl },
-          subst (λ z. GoesThrough m ps (suc j) c ks (behind (window m ps j a) z (λ d. run m ps (suc j) d ks))) (sym can.1) rest)
+          subst (λ z. GoesThrough m ps (suc j) c ks (behind (window m ps j a) z (λ d. run m ps (suc j) d ks))) (sym can.1) rest,
+        )

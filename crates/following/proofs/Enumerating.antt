@@ -1,10 +1,9 @@
 -- The enumeration of lists: it holds exactly those that a rule can meet, and none twice.
-use Rattle.std.proofs.Common.{◌≡◌, ℕ, zero, suc, ◌+◌, ◌^◌, ◌≤◌, ◌<◌, ◌↔◌, List, [], ◌∷◌, ◌++◌, map, length, get_or, Some, Option, ◌⊎◌, inl, inr, ⊎_elim, sym, refl, ap, ◌∙◌, subst, arith}
+use Rattle.std.proofs.Common.{◌≡◌, ℕ, zero, suc, ◌+◌, ◌<◌, ◌↔◌, List, [], ◌∷◌, ◌++◌, map, length, get_or, Some, ◌⊎◌, inl, inr, ⊎_elim, sym, refl, ap, ◌∙◌, subst, arith}
 use Rattle.std.specs.List.{slice_get, Contains}
 use Rattle.interface.specs.declared.plant.Outcome.{Outcome}
-use Rattle.interface.specs.Limits.{whole}
 use Rattle.interface.specs.Plants.{Model, Lawful, outcomes_of}
-use Rattle.following.specs.Rules.{Met, Rule, Plays, CanMeet, begun, lists, weight, NoneTwice, Enumerates}
+use Rattle.following.specs.Rules.{Met, Rule, Plays, CanMeet, begun, lists, NoneTwice, Enumerates}
 use Rattle.following.proofs.Halves.{together}
 
 -- membership by recursion
@@ -116,16 +115,18 @@ module _ (m : Model) (r : Rule) where
 
 twice_append : (xs ys : List (List ℕ)) → NoneTwice xs → NoneTwice ys → ((x : List ℕ) → In xs x → In ys x → ⊥) → NoneTwice (xs ++ ys)
 twice_append [] ys p q apart = q
-twice_append (x ∷ xs) ys p q apart =
-    (λ c. ⊎_elim (λ h. p.0 (in_to xs x h)) (λ h. apart x (inl refl) h) (in_either xs ys x (in_from (xs ++ ys) x c)),
-      twice_append xs ys p.1 q (λ y h g. apart y (inr h) g))
+twice_append (x ∷ xs) ys p q apart = (
+  λ c. ⊎_elim (λ h. p.0 (in_to xs x h)) (λ h. apart x (inl refl) h) (in_either xs ys x (in_from (xs ++ ys) x c)),
+  twice_append xs ys p.1 q (λ y h g. apart y (inr h) g),
+)
 
 twice_behind : (k : ℕ) (kss : List (List ℕ)) → NoneTwice kss → NoneTwice (map (λ z. k ∷ z) kss)
 twice_behind k [] p = tt
-twice_behind k (ks ∷ kss) p =
-    (λ c. let r = in_behind_from k kss (k ∷ ks) (in_from (map (λ z. k ∷ z) kss) (k ∷ ks) c) in
+twice_behind k (ks ∷ kss) p = (
+  λ c. let r = in_behind_from k kss (k ∷ ks) (in_from (map (λ z. k ∷ z) kss) (k ∷ ks) c) in
       let e : r.0 ≡ ks = cc in p.0 (in_to kss ks (subst (In kss) e r.2)),
-      twice_behind k kss p.1)
+  twice_behind k kss p.1,
+)
 
 twice_begun : (rest : ℕ → Outcome → List (List ℕ)) (k : ℕ) (os : List Outcome) → ((j : ℕ) (o : Outcome) → NoneTwice (rest j o)) → NoneTwice (begun rest k os)
 twice_begun rest k [] h = tt

@@ -1,5 +1,5 @@
 -- Amounts of any kind that add up and are ordered: what holds of all of them, whatever they are.
-use Rattle.std.proofs.Common.{◌≡◌, ℕ, zero, suc, ◌+◌, ◌*◌, Bool, true, sym, refl, ap, ◌∙◌, subst, arith}
+use Rattle.std.proofs.Common.{◌≡◌, ℕ, zero, suc, ◌+◌, ◌*◌, Bool, true, sym, ap, ◌∙◌, subst, arith}
 
 -- Sums and multiples.
 pub record Sums (A : Type 0) : Type 0 where

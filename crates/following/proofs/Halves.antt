@@ -1,14 +1,14 @@
 -- What a rule's lists weigh together, and one half of the bound: what a rule costs and the value with which it ends, against the
 -- value with which it began and a gain for each window. The order may be read either way, so this is both halves.
-use Rattle.std.proofs.Common.{◌≡◌, ℕ, zero, suc, ◌+◌, ◌*◌, ◌^◌, ◌≤◌, ◌<◌, Bool, true, cond, List, [], ◌∷◌, ◌++◌, Some, Option, sym, refl, ap, ◌∙◌, subst, arith}
+use Rattle.std.proofs.Common.{◌≡◌, ℕ, zero, suc, ◌*◌, ◌^◌, ◌≤◌, ◌<◌, true, cond, List, [], ◌∷◌, ◌++◌, Some, sym, refl, ap, ◌∙◌, subst, arith}
 use Rattle.std.proofs.Math.Nat.{pow-succ'}
 use Rattle.std.specs.List.{slice_get, sum_by}
 use Rattle.interface.specs.declared.plant.Outcome.{Outcome}
 use Rattle.interface.specs.Limits.{whole}
 use Rattle.interface.specs.Plants.{Model, Lawful, outcomes_of, weights, Inside}
 use Rattle.following.specs.Rules.{Met, Rule, Plays, lists, weigh, weight}
-use Rattle.following.proofs.Groups.{Sums, Ordered, none_plus, times_plus, times_mul, times_swap, times_one, from_same, plus_right, plus_left, times_both}
-use Rattle.following.proofs.Weighing.{Each, each, over, total, over_plus, over_times, over_one, over_same, over_most, total_begun, total_plus, numbers, weight_total}
+use Rattle.following.proofs.Groups.{Sums, Ordered, none_plus, times_plus, times_mul, times_swap, times_one, plus_right, plus_left, times_both}
+use Rattle.following.proofs.Weighing.{each, over, total, over_plus, over_times, over_one, over_same, over_most, total_begun, total_plus, numbers, weight_total}
 
 pub inside_at : (n : ℕ) (os : List Outcome) (k : ℕ) (o : Outcome) → Inside n os → slice_get os k ≡ Some o → o.next < n
 inside_at n [] k o h there = let z : ◌≡◌ {A = ℕ} 0 1 = cc in absurd (omega arith)
@@ -63,10 +63,10 @@ module _ (m : Model) (lawful : Lawful m) (r : Rule) where
   module _ {A : Type 0} (S : Sums A) (O : Ordered S) (edge g : A) (h : ℕ → A) (c : ℕ → ℕ → A) (spent : Met → ℕ → List ℕ → A)
       (spent_none : (met : Met) (s : ℕ) → spent met s [] ≡ S.none)
       (spent_more : (met : Met) (s k : ℕ) (o : Outcome) (ks : List ℕ) → slice_get (outcomes_of m s (r met s)) k ≡ Some o
-          → spent met s (k ∷ ks) ≡ S.plus (c s (r met s)) (spent (met ++ (s, k) ∷ []) o.next ks))
+      → spent met s (k ∷ ks) ≡ S.plus (c s (r met s)) (spent (met ++ (s, k) ∷ []) o.next ks))
       (base : (s : ℕ) → s < m.states → O.at_most edge (h s) ≡ true)
       (gains : (met : Met) (s : ℕ) → m.feasible s (r met s) ≡ true
-          → O.at_most (S.plus (S.times whole (c s (r met s))) (over S (λ k o. h o.next) 0 (outcomes_of m s (r met s)))) (S.plus (S.times whole (h s)) g) ≡ true) where
+      → O.at_most (S.plus (S.times whole (c s (r met s))) (over S (λ k o. h o.next) 0 (outcomes_of m s (r met s)))) (S.plus (S.times whole (h s)) g) ≡ true) where
     open S use {none, plus, times, assoc, comm, plus_none, times_zero, times_suc}
     open O use {at_most, transitive}
 
@@ -119,7 +119,7 @@ module _ (m : Model) (lawful : Lawful m) (r : Rule) where
     -- the right side, outcome by outcome
     spread_right : (n : ℕ) (w : ℕ) (price : A) (v : ℕ → Outcome → A) (os : List Outcome) → weights os ≡ whole
         → over S (λ k o. times w (plus (times whole price) (plus (times whole (v k o)) (times n g)))) 0 os
-            ≡ times w (times whole (plus (plus (times whole price) (over S v 0 os)) (times n g)))
+        ≡ times w (times whole (plus (plus (times whole price) (over S v 0 os)) (times n g)))
     spread_right n w price v os e =
         let first : over S (λ k o. times whole price) 0 os ≡ times whole (times whole price) = over_one S (times whole price) 0 os ∙ ap (λ z. times z (times whole price)) e in
         let last : over S (λ k o. times n g) 0 os ≡ times whole (times n g) = over_one S (times n g) 0 os ∙ ap (λ z. times z (times n g)) e in

@@ -6,3 +6,4 @@ mod Bounding
 mod Enumerating
 mod Charging
 mod Promising
+mod Going

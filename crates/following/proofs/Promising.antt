@@ -1,19 +1,19 @@
 -- What sound certificates promise of every book that follows them.
-use Rattle.std.proofs.Common.{◌≡◌, ℕ, ◌+◌, ◌^◌, ◌≤◌, ◌<◌, true, List, [], length, map, Ok, Err, Result, sym, refl, ap, ◌∙◌, subst, arith}
+use Rattle.std.proofs.Common.{◌≡◌, ℕ, ◌+◌, ◌≤◌, ◌<◌, true, List, [], length, map, Ok, Err, Result, sym, refl, ap, ◌∙◌, subst, arith}
 use Rattle.std.specs.Prelude.{IsOk, IfOk}
 use Rattle.std.specs.List.{Contains}
 use Rattle.interface.specs.Limits.{whole, most_windows}
 use Rattle.interface.specs.Plants.{Model, Lawful, named}
 use Rattle.interface.specs.Rows.{Row, minus, times}
-use Rattle.interface.specs.Tariffs.{Scale, LawfulScale, AtMost, Fit, price}
+use Rattle.interface.specs.Tariffs.{Scale, LawfulScale, Fit, price}
 use Rattle.lookahead.proofs.Bounds.{EachFit, fits_map}
 use Rattle.certificate.specs.Certificates.{Sound, Top, Bottom}
 use Rattle.certificate.specs.Findings.{Verdict}
 use Rattle.certificate.specs.declared.finding.Finding.{Finding}
 use Rattle.certificate.specs.declared.refusal.Refusal.{Refusal}
 use Rattle.bookkeeping.specs.Books.{Account}
-use Rattle.following.specs.Rules.{Rule, Plays, lists, weight, cost, costs}
-use Rattle.following.specs.Promises.{Policies, by_policies, GoesThrough, grown, charged, allowance, CostBound, Promise, always, Promised}
+use Rattle.following.specs.Rules.{lists, weight, cost, costs}
+use Rattle.following.specs.Promises.{Policies, by_policies, GoesThrough, grown, charged, allowance, Promise, always, Promised}
 use Rattle.following.proofs.Bounding.{policies_play, against}
 use Rattle.following.proofs.Charging.{run, grown_costs, weighed_same, gone, goes}
 use Rattle.following.proofs.Enumerating.{listed_exactly, enumerates}
@@ -49,8 +49,8 @@ module _ (m : Model) (lawful : Lawful m) (t : Scale) (scaled : LawfulScale t) (v
     enumerated = enumerates m lawful (by_policies ps) n a.state (policies_play m lawful ps feasible n [] a.state l);
     rivals = λ r plays. enumerates m lawful r n a.state plays;
     bound = λ r plays.
-    ap (λ z. t.at_most (times whole (minus z (costs m t r n a.state))) (allowance n low high top bottom)) (charged_costs a n)
-    ∙ against m t scaled lawful vs (sound 0).values.long fit low high top bottom low_fits high_fits is_top is_bottom ps sound r n a.state l plays;
+        ap (λ z. t.at_most (times whole (minus z (costs m t r n a.state))) (allowance n low high top bottom)) (charged_costs a n)
+        ∙ against m t scaled lawful vs (sound 0).values.long fit low high top bottom low_fits high_fits is_top is_bottom ps sound r n a.state l plays;
   }
 
 -- what is accepted promises it

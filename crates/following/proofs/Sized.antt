@@ -1,11 +1,11 @@
 -- Rows of so many places add up, and those of a scale are ordered: they are amounts of which all laws hold.
-use Rattle.std.proofs.Common.{◌≡◌, ℕ, zero, suc, ◌+◌, ◌<◌, Bool, true, List, [], ◌∷◌, length, get_or, ℤ, pos, ◌+ℤ◌, ◌*ℤ◌, ◌-ℤ◌, ⊎_elim, sym, refl, ap, ◌∙◌, subst, arith}
+use Rattle.std.proofs.Common.{◌≡◌, ℕ, zero, suc, List, [], ◌∷◌, length, get_or, pos, ◌+ℤ◌, ◌*ℤ◌, ⊎_elim, sym, refl, ap, ◌∙◌, subst, arith}
 use Rattle.std.proofs.Math.Nat.{ℕ_set}
 use Rattle.std.proofs.lemmas.List.{length-replicate}
 use lib.IntN.{+ℤ_comm, suc_ℤ-*ℤ, zero-*ℤ, -ℤ-+ℤ_cancel}
 use Rattle.interface.specs.declared.plant.Outcome.{Outcome}
 use Rattle.interface.specs.Rows.{Row, zeros, plus, minus, times}
-use Rattle.interface.specs.Tariffs.{Scale, LawfulScale, Fit}
+use Rattle.interface.specs.Tariffs.{Scale, LawfulScale}
 use Rattle.lookahead.specs.Gains.{value_of, expected}
 use Rattle.lookahead.proofs.Bounds.{EachFit, length_plus, length_times, plus_assoc, plus_zeros}
 use Rattle.following.specs.Rules.{weighed}

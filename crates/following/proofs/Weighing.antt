@@ -1,13 +1,12 @@
 -- Amounts weighed and added up, over the outcomes of a pair and over lists of outcome numbers.
-use Rattle.std.proofs.Common.{◌≡◌, ℕ, zero, suc, ◌+◌, ◌*◌, ◌≤◌, ◌<◌, Bool, true, List, [], ◌∷◌, ◌++◌, map, length, Some, None, Option, ◌⊎◌, inl, inr, sym, refl, ap, ◌∙◌, subst, arith}
+use Rattle.std.proofs.Common.{◌≡◌, ℕ, zero, suc, ◌+◌, ◌*◌, ◌≤◌, true, List, [], ◌∷◌, ◌++◌, map, Some, sym, refl, ap, ◌∙◌, subst, arith}
 use Rattle.std.specs.Bool.{⊤}
 use Rattle.std.specs.List.{slice_get, sum_by}
 use Rattle.std.proofs.lemmas.List.Sums.{sum_by-cons}
-use Rattle.std.proofs.lemmas.Bool.{cases_eq}
 use Rattle.interface.specs.declared.plant.Outcome.{Outcome}
 use Rattle.interface.specs.Plants.{weights}
 use Rattle.following.specs.Rules.{begun}
-use Rattle.following.proofs.Groups.{Sums, Ordered, left_comm, none_plus, swap_middle, times_none, times_plus, times_add, times_mul, times_swap, times_one, from_same, plus_both, times_both}
+use Rattle.following.proofs.Groups.{Sums, Ordered, none_plus, swap_middle, times_none, times_plus, times_add, times_mul, times_swap, from_same, plus_both, times_both}
 
 -- Something holds of each outcome with its number, where the first has number k.
 abbrev pub Each : (ℕ → Outcome → Type 0) → ℕ → List Outcome → Type 0
@@ -16,9 +15,10 @@ Each P k (o ∷ os) = P k o × Each P (suc k) os
 
 each_on : (P : ℕ → Outcome → Type 0) (k : ℕ) (os : List Outcome) → ((i : ℕ) (o : Outcome) → slice_get os i ≡ Some o → P (k + i) o) → Each P k os
 each_on P k [] h = tt
-each_on P k (o ∷ os) h =
-    (subst (λ j. P j o) (let e : k + 0 ≡ k = omega arith in e) (h zero o refl),
-      each_on P (suc k) os (λ i o' there. subst (λ j. P j o') (let e : k + suc i ≡ suc k + i = omega arith in e) (h (suc i) o' there)))
+each_on P k (o ∷ os) h = (
+  subst (λ j. P j o) (let e : k + 0 ≡ k = omega arith in e) (h zero o refl),
+  each_on P (suc k) os (λ i o' there. subst (λ j. P j o') (let e : k + suc i ≡ suc k + i = omega arith in e) (h (suc i) o' there)),
+)
 
 pub each : (P : ℕ → Outcome → Type 0) (os : List Outcome) → ((i : ℕ) (o : Outcome) → slice_get os i ≡ Some o → P i o) → Each P 0 os
 each P os h = each_on P 0 os (λ i o there. subst (λ j. P j o) (let e : i ≡ 0 + i = omega arith in e) (h i o there))

@@ -1,5 +1,5 @@
 -- Rules of play, the lists of outcomes that they can meet, and what these weigh and cost.
-use Rattle.std.specs.Prelude.{◌≡◌, ℕ, zero, suc, ◌+◌, ◌*◌, ◌^◌, ◌≤◌, ◌↔◌, true, List, [], ◌∷◌, ◌++◌, map, length, Option, Some, None, ⊤, Contains, slice_get, sum_by}
+use Rattle.std.specs.Prelude.{◌≡◌, ℕ, zero, suc, ◌*◌, ◌^◌, ◌≤◌, ◌↔◌, true, List, [], ◌∷◌, ◌++◌, map, length, Option, Some, None, ⊤, Contains, slice_get, sum_by}
 use Rattle.interface.specs.declared.plant.Outcome.{Outcome}
 use Rattle.interface.specs.Limits.{whole}
 use Rattle.interface.specs.Plants.{Model, outcomes_of}

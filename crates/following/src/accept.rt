@@ -21,26 +21,19 @@ pub fn accept<P: Plant, T: Tariff>(
     policy: &[u16],
     claims: Claims<T::Amount>,
 ) -> Result<Finding<T::Amount>, Refusal>
-    ensures verdict {
-        Verdict T.Tariff.row (P.model plant.now) (T.scale tariff.now) (map T.Tariff.row values.now)
-            policy.now claims.low claims.high result
-    }
+    ensures verdict { Verdict T.Tariff.row (P.model plant.now) (T.scale tariff.now)
+        (map T.Tariff.row values.now) policy.now claims.low claims.high result }
     // accepted exactly when sound
-    ensures exact {
-        IsOk result
+    ensures exact { IsOk result
         ↔ Sound (P.model plant.now) (T.scale tariff.now) (map T.Tariff.row values.now) policy.now
-            (T.Tariff.row claims.low) (T.Tariff.row claims.high)
-    }
+        (T.Tariff.row claims.low) (T.Tariff.row claims.high) }
     // refused by a rule at a place exactly when that rule is broken there, and none before it
-    ensures refused_exactly {
-        (n p : ℕ) → IsRefused result n p
+    ensures refused_exactly { (n p : ℕ) → IsRefused result n p
         ↔ RefusedAs (P.model plant.now) (T.scale tariff.now) (map T.Tariff.row values.now)
-            policy.now (T.Tariff.row claims.low) (T.Tariff.row claims.high) n p
-    }
+        policy.now (T.Tariff.row claims.low) (T.Tariff.row claims.high) n p }
     // accepted, it bounds the cost of every book that follows it
-    ensures promise {
-        IfOk result (Promised T.Tariff.row (P.model plant.now) (T.scale tariff.now) policy.now)
-    }
+    ensures promise { IfOk result
+        (Promised T.Tariff.row (P.model plant.now) (T.scale tariff.now) policy.now) }
 {
     check(plant, tariff, values, policy, claims)
 }

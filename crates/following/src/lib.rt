@@ -2,3 +2,4 @@
 #![tactic(auto)]
 
 pub mod accept;
+pub mod follow;

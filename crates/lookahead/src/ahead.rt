@@ -1,6 +1,4 @@
 // The look-ahead and the gain of a portfolio, step by step.
-// They are no methods: the table's public methods of these names call them, and show at that one call that no step is absent
-// under a table within reach. In a body with `?` it would be owed at each return.
 ghost use Rattle.std.specs.Prelude.{◌≡◌, map};
 ghost use Rattle.std.specs.Option.{option_map};
 ghost use Rattle.interface.specs.Plants.{outcomes_of};
@@ -25,7 +23,7 @@ fn add_outcome<T: Tariff>(
     tariff.sum(sum, part)
 }
 
-// The sum with all outcomes of a pair. They are asked by number, as a plant is: there is no slice to go over.
+// The sum with all outcomes of a pair, each asked once.
 fn add_outcomes<P: Plant, T: Tariff>(
     plant: &P,
     tariff: &T,

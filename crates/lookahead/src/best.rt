@@ -7,14 +7,14 @@ ghost use Rattle.lookahead.specs.Choices.{Asked, EachFits, pick, good};
 
 use interface::tariff::Tariff;
 
-// An amount with its number.
+/// An amount with its number.
 #[derive(Clone, Copy, PartialEq, Eq, Debug)]
 pub struct Choice<A> {
     pub at: usize,
     pub amount: A,
 }
 
-// Which of several amounts is the best: the least or the greatest.
+/// Which of several amounts is the best: the least or the greatest.
 #[derive(Clone, Copy, PartialEq, Eq, Debug)]
 pub enum Aim {
     Least,
@@ -32,7 +32,7 @@ impl Aim {
         }
     }
 
-    // The best so far, with one more that may be absent.
+    /// The best so far, with one more that may be absent.
     pub fn keep<T: Tariff>(
         self,
         tariff: &T,
@@ -40,7 +40,9 @@ impl Aim {
         at: usize,
         next: Option<T::Amount>,
     ) -> Option<Choice<T::Amount>>
-        ensures { option_map (pick T.Tariff.row) result ≡ better (good self (T.scale tariff.now)) (option_map (pick T.Tariff.row) best) at (option_map T.Tariff.row next) }
+        ensures { option_map (pick T.Tariff.row) result
+            ≡ better (good self (T.scale tariff.now)) (option_map (pick T.Tariff.row) best) at
+            (option_map T.Tariff.row next) }
     {
         match (best, next) {
             (_, None) => best,
@@ -55,8 +57,7 @@ impl Aim {
         }
     }
 
-    // The best of the amounts numbered below a count, the first among equals. It asks that the closure may be called, as
-    // std's own functions that take closures do, and nothing else.
+    /// The best of the amounts numbered below a count, the first among equals. It asks for each number once, in order.
     pub fn first_best<T: Tariff, F: Fn(usize) -> Option<T::Amount>>(
         self,
         tariff: &T,
@@ -64,13 +65,15 @@ impl Aim {
         ask: F,
     ) -> Option<Choice<T::Amount>>
         requires { F.IsAlwaysCallable ask }
-        ensures is { (rows : ℕ → Option Row) → Asked (F.post ask) T.Tariff.row count rows → option_map (pick T.Tariff.row) result ≡ first_best (good self (T.scale tariff.now)) rows count }
-        ensures law { (rows : ℕ → Option Row) → Asked (F.post ask) T.Tariff.row count rows → EachFits (T.scale tariff.now) rows → FirstBest (good self (T.scale tariff.now)) rows count (option_map (pick T.Tariff.row) result) }
+        ensures is { (rows : ℕ → Option Row) → Asked (F.post ask) T.Tariff.row count rows
+            → option_map (pick T.Tariff.row) result
+            ≡ first_best (good self (T.scale tariff.now)) rows count }
+        ensures law { (rows : ℕ → Option Row) → Asked (F.post ask) T.Tariff.row count rows
+            → EachFits (T.scale tariff.now) rows
+            → FirstBest (good self (T.scale tariff.now)) rows count
+            (option_map (pick T.Tariff.row) result) }
     {
         let mut best = None;
-        // By number: there is no slice to go over. No plainer as filter_map and min_by: the tariff's question is no Ord, so an
-        // Ordering would be made of it. Tried as a fold of `keep`: the check leaves the best open, as `ask` is known by what it
-        // ensures and not as a function.
         for x in 0..count {
             best = self.keep(tariff, best, x, ask(x));
         }

@@ -1,5 +1,5 @@
 -- The plan that a service goes by.
-use Rattle.std.specs.Prelude.{◌≡◌, ℕ, List, map, Ok, Err, Result, Option, Some, None, option_map}
+use Rattle.std.specs.Prelude.{ℕ, map, Ok, Err, Result, Option, option_map}
 use Rattle.interface.specs.Plants.{Model}
 use Rattle.interface.specs.Rows.{Row}
 use Rattle.interface.specs.Tariffs.{Scale}
@@ -32,3 +32,7 @@ pub record AllPromised {A : Type 0} (row : A → Row) (m : Model) (t : Scale) (b
 abbrev pub claimed : {A : Type 0} → Result (Served A) Refusal → Result (Claims A) Refusal
 claimed (Ok s) = Ok (record { low = s.finding.low; high = s.finding.high })
 claimed (Err e) = Err e
+
+-- The plan of a service, or why there is none, and what the three tables hold then: b before, b' after.
+abbrev pub PlannedAs : {A : Type 0} → (A → Row) → Model → Scale → ℕ → Tables A → Tables A → Result (Served A) Refusal → Type 0
+PlannedAs row m t n b b' r = Answer row m t n b b' (claimed r)

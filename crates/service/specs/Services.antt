@@ -4,7 +4,7 @@ use Rattle.interface.specs.Plants.{Model}
 use Rattle.bookkeeping.specs.declared.stage.Stage.TheVariants.{Open}
 use Rattle.bookkeeping.specs.Books.{Account, Book, account_of, held_by}
 use Rattle.bookkeeping.specs.Log.{Log, Call, issue, carry_out, report, Reply, goes_on, refused, noted_seconds, noted_cents}
-use Rattle.bookkeeping.specs.Pasts.{Event, Past, log_of}
+use Rattle.bookkeeping.specs.Pasts.{Event, log_of}
 use Rattle.bookkeeping.specs.LookingBack.{GoesOn}
 use Rattle.bookkeeping.specs.Refusals.{number_of, place_of}
 use Rattle.bookkeeping.specs.Standings.{book_of, asked, reply_of, fits}

@@ -1,9 +1,8 @@
-ghost use Rattle.std.specs.Prelude.{◌≡◌, map, Some, IfOk, OnErr};
+ghost use Rattle.std.specs.Prelude.{◌≡◌, ℕ, List, IfOk, OnErr};
 ghost use Rattle.std.specs.Option.{option_map};
 ghost use Rattle.bookkeeping.specs.Standings.{book_of};
-ghost use Rattle.planner.specs.Answers.{Answer, Only};
-ghost use Rattle.service.specs.Planning.{AllPromised, claimed};
-ghost use Rattle.service.specs.Services.{AsksCall, InService, Serves};
+ghost use Rattle.service.specs.Planning.{AllPromised, PlannedAs};
+ghost use Rattle.service.specs.Services.{AsksCall, InService, Serves, Talk};
 
 use crate::operator::Operator;
 use bookkeeping::book::Open;
@@ -27,12 +26,10 @@ pub struct Served<A> {
 
 // The book that is made in the first state asked for that the plant has.
 fn make_book<P: Plant, O: Operator>(plant: &P, operator: &mut O) -> Option<Standing>
-    ensures {
-        (ps : List ℕ) → Serves (P.model plant.now) ps
-            (record { asked = O.asked operator.old; told = O.told operator.old })
-            (record { asked = O.asked operator.new; told = O.told operator.new })
-            (option_map book_of result)
-    }
+    ensures { (ps : List ℕ) → Serves (P.model plant.now) ps
+        (record { asked = O.asked operator.old; told = O.told operator.old })
+        (record { asked = O.asked operator.new; told = O.told operator.new })
+        (option_map book_of result) }
 {
     // Nothing says that an operator ever stops asking.
     for _turn in 0..u64::MAX {
@@ -55,15 +52,16 @@ fn next_call<'a, O: Operator>(
     policy: &'a [u16],
     operator: &mut O,
 ) -> Option<Call<'a>>
-    ensures asked {
-        AsksCall (book_of book.now) policy.now result (O.asked operator.old) (O.asked operator.new)
-    }
+    ensures asked { AsksCall (book_of book.now) policy.now result (O.asked operator.old) (O.asked operator.new) }
     ensures told { O.told operator.new ≡ O.told operator.old }
 {
     match book.stage() {
         Stage::Open => operator.order().then_some(Call::Issue(policy)),
         Stage::Issued => operator.carry_out().then_some(Call::CarryOut),
-        Stage::OnAir => operator.outcome().map(Call::Report),
+        Stage::OnAir => match operator.outcome() {
+            Some(outcome) => Some(Call::Report(outcome)),
+            None => None,
+        },
     }
 }
 
@@ -74,12 +72,10 @@ fn attend<P: Plant, O: Operator>(
     made: Standing,
     operator: &mut O,
 ) -> Standing
-    ensures {
-        (from : Talk) → InService (P.model plant.now) policy.now from
-            (record { asked = O.asked operator.old; told = O.told operator.old }) (book_of made)
+    ensures { (from : Talk) → InService (P.model plant.now) policy.now from
+        (record { asked = O.asked operator.old; told = O.told operator.old }) (book_of made)
         → InService (P.model plant.now) policy.now from
-            (record { asked = O.asked operator.new; told = O.told operator.new }) (book_of result)
-    }
+        (record { asked = O.asked operator.new; told = O.told operator.new }) (book_of result) }
 {
     let mut book = made;
     for _turn in 0..u64::MAX {
@@ -91,6 +87,19 @@ fn attend<P: Plant, O: Operator>(
         operator.tell(answer.unwrap(), &book);
     }
     book
+}
+
+// A book where one is asked for, after all calls that are.
+fn keep_book<P: Plant, O: Operator>(plant: &P, policy: &[u16], operator: &mut O) -> Option<Standing>
+    ensures { Serves (P.model plant.now) policy.now
+        (record { asked = O.asked operator.old; told = O.told operator.old })
+        (record { asked = O.asked operator.new; told = O.told operator.new })
+        (option_map book_of result) }
+{
+    let Some(made) = make_book(plant, operator) else {
+        return None;
+    };
+    Some(attend(plant, policy, made, operator))
 }
 
 /// Plans, has the plan checked, shows the operator what was found, makes a book where it is asked for, and follows the
@@ -105,31 +114,22 @@ pub fn serve<P: Plant, T: Tariff, O: Operator>(
     operator: &mut O,
 ) -> Result<Served<T::Amount>, Refusal>
     // the plan, or why there is none, and what the three tables hold then
-    ensures planned {
-        Answer T.Tariff.row (P.model plant.now) (T.scale tariff.now) sweeps
-            (record { values = values.old; working = working.old; policy = policy.old })
-            (record { values = values.new; working = working.new; policy = policy.new })
-            (claimed result)
-    }
+    ensures planned { PlannedAs T.Tariff.row (P.model plant.now) (T.scale tariff.now) sweeps
+        (record { values = values.old; working = working.old; policy = policy.old })
+        (record { values = values.new; working = working.new; policy = policy.new })
+        result }
     // without a plan nothing is asked or told
-    ensures not_planned {
-        OnErr result ((O.asked operator.new ≡ O.asked operator.old)
-            × (O.told operator.new ≡ O.told operator.old))
-    }
+    ensures not_planned { OnErr result ((O.asked operator.new ≡ O.asked operator.old)
+        × (O.told operator.new ≡ O.told operator.old)) }
     // the cost bound, the exactness of the claims, and the whole past of the book
-    ensures promised {
-        IfOk result (AllPromised T.Tariff.row (P.model plant.now) (T.scale tariff.now)
-            (record { values = values.new; working = working.new; policy = policy.new })
-            (record { asked = O.asked operator.old; told = O.told operator.old })
-            (record { asked = O.asked operator.new; told = O.told operator.new }))
-    }
+    ensures promised { IfOk result (AllPromised T.Tariff.row (P.model plant.now) (T.scale tariff.now)
+        (record { values = values.new; working = working.new; policy = policy.new })
+        (record { asked = O.asked operator.old; told = O.told operator.old })
+        (record { asked = O.asked operator.new; told = O.told operator.new })) }
 {
     let claims = plan(plant, tariff, sweeps, values, working, policy)?;
     let finding = accept(plant, tariff, values, policy, claims).unwrap();
     operator.found(tariff, &finding);
-    let book = match make_book(plant, operator) {
-        Some(made) => Some(attend(plant, policy, made, operator)),
-        None => None,
-    };
+    let book = keep_book(plant, policy, operator);
     Ok(Served { finding, book })
 }

@@ -38,8 +38,8 @@ returns-in_err-certificate_holds g c =
       exact = exact_from row m lawful t vs ps low high c.from_residual.result verdict;
       refused = reason_of row m lawful t vs ps low high c.from_residual.result verdict;
       refused_exactly = refused_from row m lawful t vs ps low high c.from_residual.result verdict;
-      no_tighter = λ l h ready near.
-          loose_from row m lawful t vs ps low high scaled (fits_map row t.places fits xs) c.from_residual.result verdict (record { low_fits = fits low; high_fits = fits high; near = near }) ready l h;
+      no_tighter = λ l h ready lowest highest near.
+          loose_from row m lawful t vs ps low high scaled (fits_map row t.places fits xs) c.from_residual.result verdict (record { low_fits = fits low; high_fits = fits high; near = near }) ready l h lowest highest;
     }
 
 pub unwrap-top-requires : goal.unwrap-top-requires
@@ -115,6 +115,6 @@ returns g c =
       exact = exact_from row m lawful t vs ps low high r verdict;
       refused = tt;
       refused_exactly = refused_from row m lawful t vs ps low high r verdict;
-      no_tighter = λ l h ready near.
-          loose_from row m lawful t vs ps low high scaled (fits_map row t.places fits xs) r verdict (record { low_fits = fits low; high_fits = fits high; near = near }) ready l h;
+      no_tighter = λ l h ready lowest highest near.
+          loose_from row m lawful t vs ps low high scaled (fits_map row t.places fits xs) r verdict (record { low_fits = fits low; high_fits = fits high; near = near }) ready l h lowest highest;
     }

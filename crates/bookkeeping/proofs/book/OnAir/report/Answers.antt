@@ -1,13 +1,11 @@
-use Rattle.std.proofs.Common.{◌≡◌, ℕ, true, false, Some, None, Ok, ◌↔◌, ap, sym, ◌∙◌, refl, subst, arith, rules}
+use Rattle.std.proofs.Common.{◌≡◌, ℕ, true, false, Some, None, ◌↔◌, ap, sym, refl, subst, arith, rules}
 use Rattle.std.specs.List.{slice_get}
-use Rattle.interface.specs.Plants.{Model, outcomes_of}
-use Rattle.bookkeeping.specs.Books.{Account, account, moved, opened, on_air}
-use Rattle.bookkeeping.specs.Calls.{Reported, ReportRefused, not_allowed}
-use Rattle.bookkeeping.specs.LookingBack.{Continues, IsAccountedFor}
+use Rattle.interface.specs.Plants.{outcomes_of}
+use Rattle.bookkeeping.specs.Books.{on_air}
+use Rattle.bookkeeping.specs.Calls.{ReportRefused, not_allowed}
 use Rattle.bookkeeping.specs.Pasts.{Lasting}
-use Rattle.bookkeeping.specs.Results.{report_event}
-use Rattle.bookkeeping.proofs.Booking.{accounted, outcome_told, outcome_absent, lasting_report, report_goes_on, no_report_goes_on}
-use Rattle.bookkeeping.proofs.Replies.{report_exactly, reported_may, report_not_both}
+use Rattle.bookkeeping.proofs.Booking.{accounted, outcome_absent, outcome_book, no_report_goes_on}
+use Rattle.bookkeeping.proofs.Replies.{report_exactly, report_not_both}
 use Rattle.bookkeeping.proofs.book.OnAir.report.Goals as goal
 
 pub returns-then-not-feasible-clause-refused : goal.returns-then-not-feasible-clause-refused
@@ -30,11 +28,8 @@ returns-then-not-feasible-clause-accounted g c = accounted _ (subst (λ w. Lasti
 pub invariant_of-result : goal.invariant_of-result
 invariant_of-result g c =
     let m = g.P.Plant.model c.args.plant.now in
-    let i = c.self.inside in
     let there : slice_get (outcomes_of m c.args.self.account.state c.args.self.portfolio) c.args.outcome ≡ Some c.in-Some.reached = search rules in
-    subst (λ w. Lasting (opened (moved w.account c.in-Some.reached.next))) (sym c.self.view_is)
-    (lasting_report m c.args.self c.args.outcome _ (g.met.P.Plant.lawful c.args.plant.now) (subst (λ w. Lasting (on_air w)) c.self.view_is c.self.invariant)
-    (outcome_told m c.args.self c.args.outcome c.in-Some.reached there))
+    (outcome_book m c.args.self _ c.args.outcome c.in-Some.reached (g.met.P.Plant.lawful c.args.plant.now) c.self.view_is c.self.invariant there).lasting
 
 pub returns-in-None-clause-done : goal.returns-in-None-clause-done
 returns-in-None-clause-done g c =
@@ -65,26 +60,24 @@ pub returns-in-Some-clause-done : goal.returns-in-Some-clause-done
 returns-in-Some-clause-done g c =
     let m = g.P.Plant.model c.args.plant.now in
     let there : slice_get (outcomes_of m c.args.self.account.state c.args.self.portfolio) c.args.outcome ≡ Some c.in-Some.reached = search rules in
-    ((λ e. reported_may m c.args.self c.args.outcome _ (outcome_told m c.args.self c.args.outcome c.in-Some.reached there)), (λ may. refl))
+    let made = outcome_book m c.args.self _ c.args.outcome c.in-Some.reached (g.met.P.Plant.lawful c.args.plant.now) c.self.view_is c.self.invariant there in
+    ((λ e. made.may), (λ may. refl))
 
 pub returns-in-Some-clause-refused : goal.returns-in-Some-clause-refused
 returns-in-Some-clause-refused g c =
     let m = g.P.Plant.model c.args.plant.now in
     let there : slice_get (outcomes_of m c.args.self.account.state c.args.self.portfolio) c.args.outcome ≡ Some c.in-Some.reached = search rules in
-    let may = reported_may m c.args.self c.args.outcome _ (outcome_told m c.args.self c.args.outcome c.in-Some.reached there) in
-    λ n p. ((λ none. absurd none), (λ why. report_not_both m c.args.self c.args.outcome n p may why))
+    let made = outcome_book m c.args.self _ c.args.outcome c.in-Some.reached (g.met.P.Plant.lawful c.args.plant.now) c.self.view_is c.self.invariant there in
+    λ n p. ((λ none. absurd none), (λ why. report_not_both m c.args.self c.args.outcome n p made.may why))
 
 pub returns-in-Some-clause-past : goal.returns-in-Some-clause-past
 returns-in-Some-clause-past g c =
     let m = g.P.Plant.model c.args.plant.now in
     let there : slice_get (outcomes_of m c.args.self.account.state c.args.self.portfolio) c.args.outcome ≡ Some c.in-Some.reached = search rules in
-    subst (λ w. Continues (on_air c.args.self) (report_event m c.args.outcome (Ok (moved w.account c.in-Some.reached.next))) (opened (moved w.account c.in-Some.reached.next))) (sym c.self.view_is)
-    (report_goes_on m c.args.self c.args.outcome _ (g.met.P.Plant.lawful c.args.plant.now) (outcome_told m c.args.self c.args.outcome c.in-Some.reached there))
+    (outcome_book m c.args.self _ c.args.outcome c.in-Some.reached (g.met.P.Plant.lawful c.args.plant.now) c.self.view_is c.self.invariant there).goes_on
 
 pub returns-in-Some-clause-accounted : goal.returns-in-Some-clause-accounted
 returns-in-Some-clause-accounted g c =
     let m = g.P.Plant.model c.args.plant.now in
     let there : slice_get (outcomes_of m c.args.self.account.state c.args.self.portfolio) c.args.outcome ≡ Some c.in-Some.reached = search rules in
-    subst (λ w. IsAccountedFor (opened (moved w.account c.in-Some.reached.next))) (sym c.self.view_is)
-    (accounted _ (lasting_report m c.args.self c.args.outcome _ (g.met.P.Plant.lawful c.args.plant.now) (subst (λ w. Lasting (on_air w)) c.self.view_is c.self.invariant)
-    (outcome_told m c.args.self c.args.outcome c.in-Some.reached there)))
+    accounted _ (outcome_book m c.args.self _ c.args.outcome c.in-Some.reached (g.met.P.Plant.lawful c.args.plant.now) c.self.view_is c.self.invariant there).lasting

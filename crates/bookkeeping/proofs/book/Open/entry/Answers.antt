@@ -1,5 +1,4 @@
-use Rattle.std.proofs.Common.{◌≡◌, ℕ, ◌<◌, ◌≤◌, subst, ap, sym, arith}
-use Rattle.bookkeeping.specs.Books.{Account, account}
+use Rattle.std.proofs.Common.{subst, ap, arith}
 use Rattle.bookkeeping.specs.Calls.{IssueRefused, full, no_state, wrong_length}
 use Rattle.bookkeeping.proofs.book.Open.entry.Goals as goal
 

@@ -1,4 +1,4 @@
-use Rattle.std.proofs.Common.{◌≡◌, ℕ, ◌<◌, ◌≤◌, arith, refl, []}
+use Rattle.std.proofs.Common.{arith, []}
 use Rattle.bookkeeping.specs.Pasts.{made}
 use Rattle.bookkeeping.proofs.Booking.{goes_on_so, lasting_make}
 use Rattle.bookkeeping.proofs.Replies.{make_exactly}
