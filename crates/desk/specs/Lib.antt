@@ -2,3 +2,4 @@ pub mod Asking
 pub mod Saying
 pub mod Terminals
 pub mod Talks
+pub mod Streams

@@ -3,6 +3,8 @@
 
 pub mod asking;
 pub mod desk;
+pub mod opening;
 pub mod saying;
+pub mod streams;
 pub mod talk;
 pub mod terminal;

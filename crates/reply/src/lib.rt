@@ -6,4 +6,5 @@ mod behind;
 mod planning;
 pub mod replying;
 mod sweeps;
+pub mod words;
 mod writing;

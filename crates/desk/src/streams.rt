@@ -1,0 +1,88 @@
+ghost use Rattle.std.specs.Prelude.{◌≡◌};
+ghost use Rattle.desk.specs.Streams.{kept, heard_lines, said_lines};
+
+use crate::terminal::{HEARD_ROOM, Heard, Terminal};
+use http_server::Log;
+use lines::reading::LINE_END;
+use plantext::line::LineText;
+use std::io::{Read, Write};
+
+// One byte more of a line: of a line that is too long only the beginning is kept, and the line end.
+fn keep(line: &mut Heard, byte: u8)
+    ensures { line.new.items ≡ kept line.old.items byte }
+{
+    if byte == LINE_END || line.len() + 1 < HEARD_ROOM {
+        let _ = line.try_push(byte);
+    }
+}
+
+// The next byte; none at the end or where the stream fails.
+fn next_byte<R: Read>(reader: &mut R) -> Option<u8> {
+    let mut byte = [0; 1];
+    match reader.read(&mut byte) {
+        Ok(1) => Some(byte[0]),
+        _ => None,
+    }
+}
+
+/// The next line of a stream, with its line end; none at the end or where the stream fails. Of a line that is too long only the
+/// beginning is kept, and its line end.
+pub fn read_line<R: Read>(reader: &mut R) -> Option<Heard> {
+    let mut line = Heard::new();
+    for _ in 0..u64::MAX {
+        let Some(byte) = next_byte(reader) else {
+            break;
+        };
+        keep(&mut line, byte);
+        if byte == LINE_END {
+            break;
+        }
+    }
+    if line.is_empty() { None } else { Some(line) }
+}
+
+/// A terminal of two streams: lines are heard from the one and said to the other.
+#[derive(Drop)]
+pub struct Streams<R, W> {
+    reader: R,
+    writer: W,
+    // whether the writer took every line so far
+    takes: bool,
+    // the lines that were heard and said, for proofs alone
+    heard: Log<Heard, ()>,
+    said: Log<LineText, ()>,
+}
+
+impl<R: Read, W: Write> Streams<R, W> {
+    /// A terminal of these streams.
+    pub fn new(reader: R, writer: W) -> Streams<R, W> {
+        Streams {
+            reader,
+            writer,
+            takes: true,
+            heard: Log::new(),
+            said: Log::new(),
+        }
+    }
+}
+
+impl<R: Read, W: Write> Terminal for Streams<R, W> {
+    ghost heard = { λ s. heard_lines s.heard.items };
+
+    ghost said = { λ s. said_lines s.said.items };
+
+    fn hear(&mut self) -> Option<Heard> {
+        if !self.takes {
+            return None;
+        }
+        let line = read_line(&mut self.reader)?;
+        self.heard = self.heard.and(&line, &());
+        Some(line)
+    }
+
+    fn say(&mut self, line: &LineText) {
+        let written = self.writer.write_all(line.as_slice());
+        self.takes = self.takes && written.is_ok() && self.writer.flush().is_ok();
+        self.said = self.said.and(line, &());
+    }
+}
