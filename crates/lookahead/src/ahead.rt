@@ -2,7 +2,8 @@
 ghost use Rattle.std.specs.Prelude.{◌≡◌, map};
 ghost use Rattle.std.specs.Option.{option_map};
 ghost use Rattle.interface.specs.Plants.{outcomes_of};
-ghost use Rattle.lookahead.specs.Steps.{add_outcome, add_outcomes, ahead_of, look_ahead_steps, gain_of, gain_steps};
+ghost use Rattle.lookahead.specs.Steps.{add_outcome, add_outcomes, ahead_of, look_ahead_steps};
+ghost use Rattle.lookahead.specs.Steps.{gain_of, gain_steps};
 
 use interface::limits::WHOLE;
 use interface::plant::{Bill, Outcome, Plant};
@@ -84,7 +85,8 @@ pub(crate) fn gain_of<P: Plant, T: Tariff>(
     state: usize,
     portfolio: usize,
 ) -> Option<T::Amount>
-    ensures { option_map T.Tariff.row result ≡ gain_of (T.scale tariff.now) (map T.Tariff.row values.now)
+    ensures { option_map T.Tariff.row result ≡ gain_of (T.scale tariff.now)
+        (map T.Tariff.row values.now)
         bill (outcomes_of (P.model plant.now) state portfolio) state }
 {
     let ahead = look_ahead_of(plant, tariff, values, bill, state, portfolio)?;
