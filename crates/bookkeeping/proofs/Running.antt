@@ -175,7 +175,7 @@ through m first calls old new b n end least inside =
         of_plant = subst (λ l. EachOf m l.notes) same known.1;
         ended = subst (λ z. EachEndedBeside m (endings_of (fitting first z))) all known.2;
         accounted = subst (λ z. AccountFor first (log_after (start first) cs).notes (endings_of (fitting first z)) b) all
-          (subst (λ l. AccountFor first l.notes (endings_of es) b) same so.1.accounted);
+            (subst (λ l. AccountFor first l.notes (endings_of es) b) same so.1.accounted);
         booked = agrees.windows;
         seconds = agrees.seconds;
         cents = agrees.cents;

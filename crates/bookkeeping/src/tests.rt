@@ -1,3 +1,4 @@
+//! A book beside a small plant.
 ghost use Rattle.std.specs.Prelude.{cond, ◌&&◌, ◌||◌, [], ◌∷◌, ◌==◌, nat_lt};
 ghost use Rattle.std.proofs.Common.{arith, refl, lit≤, lit<};
 ghost use Rattle.std.proofs.lemmas.Bool.Decides.{nat_tests};
@@ -9,8 +10,8 @@ use crate::standing::{Answer, Call};
 use interface::plant::{Bill, Outcome, Plant};
 use std::test::Fail;
 
-// A beacon lamp: state 0 is lit and state 1 dark, portfolio 0 leaves it and portfolio 1 replaces it.
-// A dark lamp must be replaced.
+// A beacon lamp: state 0 is lit and state 1 dark, portfolio 0 leaves it and portfolio 1 replaces
+// it. A dark lamp must be replaced.
 #[derive(Clone, Copy)]
 struct Lamp;
 
@@ -21,7 +22,8 @@ impl Plant for Lamp {
           portfolios = 2;
           feasible = λ s x. nat_lt s 2 && (x == 1 || (x == 0 && s == 0));
           bill = λ s x. record { seconds = cond (s == 1) 60 0; cents = cond (x == 1) 500 0 };
-          outcomes = λ s x. record { next = 0; weight = 7500 } ∷ record { next = 1; weight = 2500 } ∷ [];
+          outcomes = λ s x.
+              record { next = 0; weight = 7500 } ∷ record { next = 1; weight = 2500 } ∷ [];
         } };
 
     ghost lawful = { λ p.
@@ -32,8 +34,16 @@ impl Plant for Lamp {
           few_portfolios = lit≤ tt;
           in_range = λ s x f. (Prim.grind (arith, nat_tests), Prim.grind (arith, nat_tests));
           way_out = λ s l. (1, Prim.grind (arith, nat_tests));
-          billed = λ s x f. record { dark = Prim.grind (arith, nat_tests); paid = Prim.grind (arith, nat_tests) };
-          spread = λ s x f. record { some = lit≤ tt; few = lit≤ tt; inside = (lit< tt, (lit< tt, tt)); shared = refl };
+          billed = λ s x f. record {
+            dark = Prim.grind (arith, nat_tests);
+            paid = Prim.grind (arith, nat_tests);
+          };
+          spread = λ s x f. record {
+            some = lit≤ tt;
+            few = lit≤ tt;
+            inside = (lit< tt, (lit< tt, tt));
+            shared = refl;
+          };
         } };
 
     fn states(&self) -> usize {
