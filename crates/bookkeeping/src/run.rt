@@ -1,3 +1,4 @@
+//! A run of calls of one book beside one plant.
 ghost use Rattle.std.specs.Prelude.{◌≡◌, ◌↔◌, ℕ, ◌<◌, IsOk, IfOk, OnErr};
 ghost use Rattle.bookkeeping.specs.Calls.{MakeRefused};
 ghost use Rattle.bookkeeping.specs.Results.{IsNotMade};
