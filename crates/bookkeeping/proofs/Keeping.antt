@@ -1,11 +1,11 @@
 -- What is kept of every past, by induction on it.
-use Rattle.std.proofs.Common.{◌≡◌, ℕ, zero, suc, ◌+◌, ◌<◌, ◌≤◌, ◌↔◌, true, cond, List, [], ◌∷◌, Some, sym, refl, ap, ◌∙◌, subst, arith, None}
+use Rattle.std.proofs.Common.{◌≡◌, ℕ, zero, suc, ◌+◌, ◌<◌, ◌≤◌, ◌↔◌, true, cond, List, [], ◌∷◌, Some, sym, refl, ap, ◌∙◌, subst, arith}
 use Rattle.std.specs.List.{filter, count_by, slice_get}
 use Rattle.std.specs.Option.{IfSome}
 use Rattle.std.proofs.lemmas.List.Sums.{sum_by-cons}
 use Rattle.interface.specs.Limits.{most_windows}
 use Rattle.std.specs.Bool.{⊤}
-use Rattle.interface.specs.Plants.{Model, Lawful, Inside, named, outcomes_of}
+use Rattle.interface.specs.Plants.{Model, Lawful, Inside, named}
 use Rattle.interface.specs.declared.plant.Outcome.{Outcome}
 use Rattle.bookkeeping.specs.declared.stage.Stage.TheVariants.{Open, Issued, OnAir}
 use Rattle.bookkeeping.specs.Books.{Account, Order, Airing, Book, opened, issued, on_air, account_of, aired}
@@ -39,37 +39,6 @@ mirrored first es b (report_was_refused {es = earlier} {w = w} m k n p before la
     let so_far = mirrored first earlier (on_air w) before in
     let step = not_reported first (log_of first earlier) (endings_of earlier) w m k n p so_far.1 why in
     ((step.answered, so_far.0), step.mirrors)
-
--- one order more, carried out, and reported
-module _ (first : ℕ) (os : List (Model × List ℕ)) (rs : List (Model × ℕ)) where
-  makes_order : (l : Log) (m : Model) (ps : List ℕ) (s : ℕ) (ws : List Note) → l ≡ record { stage = Open; state = s; held = None; notes = ws }
-      → Makes first os rs l → Makes first ((m, ps) ∷ os) rs (went_on l (issue m ps))
-  makes_order l m ps s ws is makes =
-      subst (λ z. Makes first ((m, ps) ∷ os) rs (went_on z (issue m ps))) (sym is)
-      (record { plant = refl; state = refl; entry = refl }, subst (Makes first os rs) is makes)
-
-  makes_carry_out : (l : Log) (s : ℕ) (h : Note) (ws : List Note) → l ≡ record { stage = Issued; state = s; held = Some h; notes = ws }
-      → Makes first os rs l → Makes first os rs (after l carry_out)
-  makes_carry_out l s h ws is makes = subst (λ z. Makes first os rs (after z carry_out)) (sym is) (on_air_made os (subst (Makes first os rs) is makes))
-    where
-      on_air_made : (qs : List (Model × List ℕ)) → MakesAt first qs rs Issued s (Some h) ws → MakesAt first qs rs OnAir s (Some h) (h ∷ ws)
-      on_air_made [] none = none
-      on_air_made (q ∷ qs) some = (refl, some.0, some.1)
-
-  makes_report : (l : Log) (m : Model) (k s : ℕ) (h : Note) (ws : List Note) (o : Outcome) → l ≡ record { stage = OnAir; state = s; held = Some h; notes = h ∷ ws }
-      → h.state ≡ s → slice_get (outcomes_of m s h.portfolio) k ≡ Some o → Makes first os rs l → Makes first os ((m, k) ∷ rs) (went_on l (report m k))
-  makes_report l m k s h ws o is at there makes =
-      subst (λ z. Makes first os ((m, k) ∷ rs) (went_on z (report m k))) (sym is)
-      (rw there (landed os (subst (Makes first os rs) is makes)))
-    where
-      landed : (qs : List (Model × List ℕ)) → MakesAt first qs rs OnAir s (Some h) (h ∷ ws) → Made first qs ((m, k) ∷ rs) (h ∷ ws) o.next
-      landed [] none = absurd none
-      landed (q ∷ qs) some =
-          let from_window = ap (λ z. slice_get (outcomes_of m z h.portfolio) k) at ∙ there in (
-            subst (λ z. IsOrdered h q z) (sym at) some.1,
-            record { outcome = o; there = from_window; next = refl },
-            subst (Made first qs rs ws) (sym at) some.2,
-          )
 
 -- a log that goes with a book agrees with it
 agrees_from : (first : ℕ) (l : Log) (es : List Ending) (b : Book) → Mirrors first l es b → Agrees l b

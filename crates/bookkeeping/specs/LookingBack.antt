@@ -3,10 +3,8 @@ use Rattle.std.specs.Prelude.{◌≡◌, ◌≢◌, ℕ, ◌+◌, ◌<◌, ◌�
 use Rattle.interface.specs.declared.plant.Outcome.{Outcome}
 use Rattle.interface.specs.Limits.{most_windows}
 use Rattle.interface.specs.Plants.{Model, Lawful, named, outcomes_of}
-use Rattle.bookkeeping.specs.declared.stage.Stage.{Stage}
-use Rattle.bookkeeping.specs.declared.stage.Stage.TheVariants.{Open, Issued, OnAir}
-use Rattle.bookkeeping.specs.Books.{Account, Order, Airing, Book, opened, issued, on_air, account_of}
-use Rattle.bookkeeping.specs.Log.{Note, Log, Call, issue, carry_out, report, Reply, goes_on, refused, Agrees}
+use Rattle.bookkeeping.specs.Books.{Order, Book, opened, issued, on_air, account_of}
+use Rattle.bookkeeping.specs.Log.{Note, Call, issue, carry_out, report, Reply, goes_on, refused, Agrees}
 use Rattle.bookkeeping.specs.Pasts.{Event, Past, log_of, EachAnswered}
 
 -- Whether a call was accepted, and of which kind it was.
@@ -146,53 +144,6 @@ EachEndedBeside m (e ∷ es) = (e.plant ≡ m) × EachEndedBeside m es
 abbrev pub NoneUnknown : List Event → Type 0
 NoneUnknown [] = ⊤
 NoneUnknown (e ∷ es) = ((p : ℕ) → e.reply ≢ refused 21 p) × NoneUnknown es
-
--- The accepted orders of a past, each a plant and a policy, and the accepted reports, each a plant and an outcome number, the newest
--- first.
-abbrev pub orders_of : List Event → List (Model × List ℕ)
-orders_of [] = []
-orders_of (e ∷ es) = with_order e.call e.reply (orders_of es)
-  where
-    with_order : Call → Reply → List (Model × List ℕ) → List (Model × List ℕ)
-    with_order (issue m ps) (goes_on s) os = (m, ps) ∷ os
-    with_order c r os = os
-
-abbrev pub reports_of : List Event → List (Model × ℕ)
-reports_of [] = []
-reports_of (e ∷ es) = with_report e.call e.reply (reports_of es)
-  where
-    with_report : Call → Reply → List (Model × ℕ) → List (Model × ℕ)
-    with_report (report m k) (goes_on s) rs = (m, k) ∷ rs
-    with_report c r rs = rs
-
--- A window is what an order makes of a state: the order's plant, that state, and the policy's entry for it.
-pub record IsOrdered (w : Note) (o : Model × List ℕ) (s : ℕ) : Type 0 where
-  pub plant : w.plant ≡ o.0
-  pub state : w.state ≡ s
-  pub entry : w.portfolio ≡ named o.1 s
-
--- A report ends a window in this state: where the reported outcome leads.
-pub record Ended (w : Note) (r : Model × ℕ) (s : ℕ) : Type 0 where
-  pub outcome : Outcome
-  pub there : slice_get (outcomes_of r.0 w.state w.portfolio) r.1 ≡ Some outcome
-  pub next : outcome.next ≡ s
-
--- So many orders and reports make these windows, the newest first, from one state to another.
-abbrev pub Made : ℕ → List (Model × List ℕ) → List (Model × ℕ) → List Note → ℕ → Type 0
-Made first [] [] [] s = s ≡ first
-Made first (o ∷ os) (r ∷ rs) (w ∷ ws) s = IsOrdered w o w.state × Ended w r s × Made first os rs ws w.state
-Made first os rs ws s = ⊥
-
--- The orders and reports make a log: its notes are their windows, and it stands where the last report led, or at the first state. What is
--- held is the window that the last order makes there; on air it is noted too.
-abbrev pub MakesAt : ℕ → List (Model × List ℕ) → List (Model × ℕ) → Stage → ℕ → Option Note → List Note → Type 0
-MakesAt first os rs Open s None ws = Made first os rs ws s
-MakesAt first (o ∷ os) rs Issued s (Some h) ws = IsOrdered h o s × Made first os rs ws s
-MakesAt first (o ∷ os) rs OnAir s (Some h) (w ∷ ws) = (w ≡ h) × IsOrdered h o s × Made first os rs ws s
-MakesAt first os rs stage s h ws = ⊥
-
-abbrev pub Makes : ℕ → List (Model × List ℕ) → List (Model × ℕ) → Log → Type 0
-Makes first os rs l = MakesAt first os rs l.stage l.state l.held l.notes
 
 -- What holds of every past of a book.
 pub record Kept (first : ℕ) (es : List Event) (b : Book) : Type 0 where
