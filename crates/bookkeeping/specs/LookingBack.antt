@@ -76,30 +76,46 @@ HoldsNamed es (issued o) = IsNamed es o.account.state o.portfolio
 HoldsNamed es (on_air w) = IsNamed es w.account.state w.portfolio
 
 -- A window's portfolio is feasible in its state beside its plant.
-abbrev pub IsFeasible : Note → Type 0
-IsFeasible w = w.plant.feasible w.state w.portfolio ≡ true
+pub record Allowed (w : Note) : Type 0 where
+  pub lawful : Lawful w.plant
+  pub feasible : w.plant.feasible w.state w.portfolio ≡ true
 
--- A window ended in an outcome, of some plant that allows it, that leads to this state.
-pub record LedTo (w : Note) (s : ℕ) : Type 0 where
+-- How a window ended: in the outcome of this number, beside this plant.
+pub record Ending : Type 0 where
   pub plant : Model
   pub number : ℕ
+
+-- The reports that were accepted, the newest first.
+abbrev pub endings_of : List Event → List Ending
+endings_of [] = []
+endings_of (e ∷ es) = ending_and e.call e.reply (endings_of es)
+  where
+    ending_and : Call → Reply → List Ending → List Ending
+    ending_and (report m k) (goes_on s) earlier = record { plant = m; number = k } ∷ earlier
+    ending_and c r earlier = earlier
+
+-- The outcome in which a window ended leads to this state.
+pub record LedTo (w : Note) (e : Ending) (s : ℕ) : Type 0 where
+  pub lawful : Lawful e.plant
   pub outcome : Outcome
-  pub there : slice_get (outcomes_of plant w.state w.portfolio) number ≡ Some outcome
+  pub there : slice_get (outcomes_of e.plant w.state w.portfolio) e.number ≡ Some outcome
   pub next : outcome.next ≡ s
 
--- A trail of windows, the newest first, from the state in which a book was made to the state in which it stands: each feasible,
--- and each in the state to which an outcome of the one before led.
-abbrev pub Trail : ℕ → List Note → ℕ → Type 0
-Trail first [] s = s ≡ first
-Trail first (w ∷ ws) s = IsFeasible w × LedTo w s × Trail first ws w.state
+-- A trail of windows and of how they ended, the newest first, from the state in which a book was made to the state in which it
+-- stands: each allowed, and each in the state to which the one before led.
+abbrev pub Trail : ℕ → List Note → List Ending → ℕ → Type 0
+Trail first [] [] s = s ≡ first
+Trail first (w ∷ ws) (e ∷ es) s = Allowed w × LedTo w e s × Trail first ws es w.state
+Trail first [] (e ∷ es) s = ⊥
+Trail first (w ∷ ws) [] s = ⊥
 
--- The windows account for a book: they are a trail to where it stands; of a window on air it is not yet told where it led.
-abbrev pub AccountFor : ℕ → List Note → Book → Type 0
-AccountFor first ws (opened a) = Trail first ws a.state
-AccountFor first ws (issued o) = Trail first ws o.account.state
-AccountFor first [] (on_air w) = ⊥
-AccountFor first (n ∷ ws) (on_air w) =
-    IsFeasible n × (n.state ≡ w.account.state) × (n.portfolio ≡ w.portfolio) × Trail first ws n.state
+-- The windows account for a book: they are a trail to where it stands; of a window on air it is not yet told how it ended.
+abbrev pub AccountFor : ℕ → List Note → List Ending → Book → Type 0
+AccountFor first ws es (opened a) = Trail first ws es a.state
+AccountFor first ws es (issued o) = Trail first ws es o.account.state
+AccountFor first [] es (on_air w) = ⊥
+AccountFor first (n ∷ ws) es (on_air w) =
+    Allowed n × (n.state ≡ w.account.state) × (n.portfolio ≡ w.portfolio) × Trail first ws es n.state
 
 -- An issue is refused for want of a window exactly when so many windows as a book takes lie before it.
 abbrev pub FullExactly : List Event → Type 0
@@ -121,6 +137,10 @@ abbrev pub EachOf : Model → List Note → Type 0
 EachOf m [] = ⊤
 EachOf m (w ∷ ws) = (w.plant ≡ m) × EachOf m ws
 
+abbrev pub EachEndedBeside : Model → List Ending → Type 0
+EachEndedBeside m [] = ⊤
+EachEndedBeside m (e ∷ es) = (e.plant ≡ m) × EachEndedBeside m es
+
 abbrev pub NoneUnknown : List Event → Type 0
 NoneUnknown [] = ⊤
 NoneUnknown (e ∷ es) = ((p : ℕ) → e.reply ≢ refused 21 p) × NoneUnknown es
@@ -130,8 +150,8 @@ pub record Kept (first : ℕ) (es : List Event) (b : Book) : Type 0 where
   -- each reply is the log's, and the book shows what the log says
   pub answered : EachAnswered first es
   pub agrees : Agrees (log_of first es) b
-  -- nothing infeasible was carried out, and the windows lead from the first state to where the book stands
-  pub accounted : AccountFor first (log_of first es).notes b
+  -- nothing infeasible was carried out, and the windows lead by the reports from the first state to where the book stands
+  pub accounted : AccountFor first (log_of first es).notes (endings_of es) b
   pub windows : (account_of b).windows ≡ windows_of es
   pub turns : TakesTurns es b
   pub held : HoldsNamed es b
@@ -139,8 +159,9 @@ pub record Kept (first : ℕ) (es : List Event) (b : Book) : Type 0 where
   -- a refused call could be left out, and nothing after it would differ
   pub without_refused : Past first (filter is_accepted es) b
   pub same_log : log_of first (filter is_accepted es) ≡ log_of first es
-  -- beside one plant no call is told that the plant does not know its state, and each window is one of that plant
-  pub known : (m : Model) → first < m.states → AllBeside m es → NoneUnknown es × EachOf m (log_of first es).notes
+  -- beside one plant no call is told that the plant does not know its state, and windows and reports are of that plant
+  pub known : (m : Model) → first < m.states → AllBeside m es
+      → NoneUnknown es × EachOf m (log_of first es).notes × EachEndedBeside m (endings_of es)
 
 -- A past goes on to a book, and all that is kept of it holds.
 abbrev pub GoesOn : ℕ → List Event → Book → Type 0
