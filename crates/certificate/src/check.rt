@@ -55,6 +55,7 @@ fn gain_of<P: Plant, T: Tariff>(
 
 // The tests of a state, for which the policy names the portfolio. Whether a pair is feasible is asked first, and of a feasible
 // pair alone its bill and its outcomes, each once: the gain of the policy's portfolio is kept as it comes by.
+#[tactic(auto, using(crate::proofs::Passing::low_broken))]
 fn state_holds<P: Plant, T: Tariff>(
     valued: &ValuedPlant<P, T>,
     claims: &Claims<T::Amount>,
