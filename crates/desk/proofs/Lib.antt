@@ -1,2 +1,4 @@
 mod AskLaws
+mod HistoryLaws
+mod OpeningLaws
 mod TalkLaws

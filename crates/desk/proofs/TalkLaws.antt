@@ -9,14 +9,11 @@ use Rattle.desk.specs.declared.asking.Ask.{Ask}
 use Rattle.desk.specs.declared.asking.Due.{Due}
 use Rattle.desk.specs.declared.saying.Told as saying
 use Rattle.desk.specs.Asking.{asked}
-use Rattle.desk.specs.Saying.{told_of}
-use Rattle.desk.specs.Talks.{Talk, newest, asks_by, asks_in, tells_in, hears_in, says_in, read_after, said_from, IsTalk}
+use Rattle.desk.specs.Histories.{newest}
+use Rattle.desk.proofs.HistoryLaws.{newest-append}
+use Rattle.desk.specs.Talks.{Talk, asks_by, asks_in, tells_in, hears_in, says_in, read_after, said_from, IsTalk}
 use Rattle.arrayvec.specs.ArrayVec.{ArrayVec}
 use Rattle.reading.specs.declared.rules.Rule.{Rule}
-
-pub newest-append : {A : Type 0} (f : Turn → List A) (ts : Talk) (t : Turn × Unit {0}) → newest f (ts ++ t ∷ []) ≡ f t.0 ++ newest f ts
-newest-append f [] t = sym (append-nil (f t.0))
-newest-append f (x ∷ xs) t = ap (λ us. us ++ f x.0) (newest-append f xs t) ∙ append_assoc (f t.0) (newest f xs) (f x.0)
 
 -- how many lines were read after a whole talk and one turn more
 after_all : ℕ → Talk → Turn → ℕ
@@ -61,7 +58,3 @@ begins heard said lines = ∣ record { first = lines; heard_before = heard; said
 -- what is asked and told when a line is heard
 pub asks_heard : (ts ts' : Talk) (d : Due) (line : ArrayVec ℕ) (r : Result Ask Rule) → ts' ≡ ts ++ (Heard d line, tt) ∷ [] → r ≡ asked d line.items → newest asks_in ts' ≡ asks_by r ++ newest asks_in ts
 asks_heard ts ts' d line r is e = ap (newest asks_in) is ∙ newest-append asks_in ts (Heard d line, tt) ∙ ap (λ a. asks_by a ++ newest asks_in ts) (sym e)
-
--- what one turn more gives
-pub turned : {A : Type 0} (f : Turn → List A) (ts ts' : Talk) (t : Turn) → ts' ≡ ts ++ (t, tt) ∷ [] → newest f ts' ≡ f t ++ newest f ts
-turned f ts ts' t is = ap (newest f) is ∙ newest-append f ts (t, tt)

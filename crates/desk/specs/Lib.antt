@@ -1,5 +1,7 @@
 pub mod Asking
+pub mod Histories
+pub mod Opening
 pub mod Saying
-pub mod Terminals
-pub mod Talks
 pub mod Streams
+pub mod Talks
+pub mod Terminals

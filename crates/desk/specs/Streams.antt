@@ -15,11 +15,9 @@ is_kept line b = (b == line_end || nat_lt (length line + 1) heard_room) && nat_l
 abbrev pub kept : List ℕ → ℕ → List ℕ
 kept line b = if is_kept line b then line ++ b ∷ [] else line
 
--- All lines that were heard, and all that were said, the newest first.
-abbrev pub heard_lines : List (ArrayVec ℕ × Unit {0}) → List (List ℕ)
-heard_lines [] = []
-heard_lines (l ∷ ls) = heard_lines ls ++ l.0.items ∷ []
+-- A line that was heard, and one that was said.
+abbrev pub heard_line : ArrayVec ℕ → List (List ℕ)
+heard_line l = l.items ∷ []
 
-abbrev pub said_lines : List (LineText × Unit {0}) → List (List ℕ)
-said_lines [] = []
-said_lines (l ∷ ls) = said_lines ls ++ l.0.bytes.items ∷ []
+abbrev pub said_line : LineText → List (List ℕ)
+said_line l = l.bytes.items ∷ []

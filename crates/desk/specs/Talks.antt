@@ -8,11 +8,12 @@ use Rattle.desk.specs.declared.asking.Ask.TheVariants.{State, Order, CarryOut, O
 use Rattle.desk.specs.declared.talk.Turn.{Turn}
 use Rattle.desk.specs.declared.talk.Turn.TheVariants.{Heard, Told, Shown}
 use Rattle.desk.specs.Asking.{asked}
+use Rattle.desk.specs.Histories.{History, newest}
 use Rattle.desk.specs.Saying.{refusal_line, told_line, told_of}
 
 -- The turns of a talk, the oldest first.
 abbrev pub Talk : Type 0
-Talk = List (Turn × Unit {0})
+Talk = History Turn
 
 -- What is asked, in the words of the service.
 abbrev pub ask_of : Ask → service.Ask
@@ -51,11 +52,6 @@ abbrev pub says_in : ℕ → Turn → List (List ℕ)
 says_in n (Heard d line) = refuses_by n (asked d line.items)
 says_in n (Told t) = told_line (told_of t) ∷ []
 says_in n (Shown line) = line.bytes.items ∷ []
-
--- All that the turns of a talk give, the newest first.
-abbrev pub newest : {A : Type 0} → (Turn → List A) → Talk → List A
-newest f [] = []
-newest f (t ∷ ts) = newest f ts ++ f t.0
 
 -- How many lines were read of the input after a turn.
 abbrev pub read_after : ℕ → Turn → ℕ

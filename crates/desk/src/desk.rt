@@ -1,7 +1,8 @@
 ghost use Rattle.std.specs.Prelude.{◌≡◌, ◌+◌, ◌^◌, ◌<◌, [], ◌∷◌, IfSome, IfOk};
 ghost use Rattle.desk.specs.Asking.{Suits};
+ghost use Rattle.desk.specs.Histories.{newest};
 ghost use Rattle.desk.specs.Saying.{told_of};
-ghost use Rattle.desk.specs.Talks.{newest, asks_in, tells_in, Hears, Asks, IsTalk};
+ghost use Rattle.desk.specs.Talks.{asks_in, tells_in, Hears, Asks, IsTalk};
 
 use crate::asking::{Ask, Due, asked};
 use crate::saying::{Claim, Shown, Told, refusal_line};

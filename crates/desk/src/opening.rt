@@ -1,4 +1,9 @@
+ghost use Rattle.std.specs.Prelude.{◌≤◌};
+ghost use Rattle.planner.specs.Sweeps.{most_sweeps};
 ghost use Rattle.request.specs.Writing.{RateInRange};
+ghost use Rattle.reply.specs.Laws.{Tail, SomeRequest, ReplyLaw};
+ghost use Rattle.reply.specs.Replies.{PlansAs, BehindPlant, RepliesTo, scale_of};
+ghost use Rattle.desk.specs.Opening.{Opened, Followed, FollowedBehind, FollowedText, service_of};
 
 use crate::desk::Desk;
 use crate::terminal::Terminal;
@@ -17,14 +22,21 @@ use std::alloc::Global;
 use tariffs::air_first::AirFirst;
 use tariffs::priced::Priced;
 
-// Plans, and follows the plan at the terminal.
+// Plans in tables of its own, and follows the plan at the terminal.
 fn follow_with<P: Plant, T: Tariff, L: Terminal + Drop>(
     heap: Global,
     plant: &P,
     tariff: &T,
     sweeps: SweepsLine,
     terminal: L,
-) -> Result<Desk<L>, Unanswered> {
+) -> Result<Desk<L>, Unanswered>
+    requires { sweeps.count ≤ most_sweeps }
+    ensures {
+        Opened (PlansAs (P.model plant.now) (T.scale tariff.now) sweeps) (Unit {0})
+            (λ desk. Followed (P.model plant.now) (T.scale tariff.now) sweeps.count
+            (service_of desk.talk.items)) result
+    }
+{
     let states = plant.states();
     let mut values = vec![in heap; tariff.zero(); states]?;
     let mut working = vec![in heap; tariff.zero(); states]?;
@@ -39,11 +51,11 @@ fn follow_with<P: Plant, T: Tariff, L: Terminal + Drop>(
         &mut policy,
         &mut desk,
     );
-    // The sweeps are few and the tables long enough: a value beyond reach is all that is refused here.
-    if served.is_err() {
-        return Err(Unanswered::Refused(Refusal::BeyondReach(sweeps.line)));
+    match served {
+        Ok(_) => Ok(desk),
+        // The sweeps are few and the tables long enough: a value beyond reach is all that is refused here.
+        Err(_) => Err(Unanswered::Refused(Refusal::BeyondReach(sweeps.line))),
     }
-    Ok(desk)
 }
 
 // The same under the tariff that the request names.
@@ -54,7 +66,13 @@ fn follow_under<P: Plant, L: Terminal + Drop>(
     sweeps: SweepsLine,
     terminal: L,
 ) -> Result<Desk<L>, Unanswered>
-    requires { RateInRange tariff }
+    requires rate { RateInRange tariff }
+    requires few { sweeps.count ≤ most_sweeps }
+    ensures {
+        Opened (PlansAs (P.model plant.now) (scale_of tariff) sweeps) (Unit {0})
+            (λ desk. Followed (P.model plant.now) (scale_of tariff) sweeps.count
+            (service_of desk.talk.items)) result
+    }
 {
     match tariff {
         TariffChoice::Priced(rate) => follow_with(
@@ -74,19 +92,30 @@ fn follow_behind<P: Plant, L: Terminal + Drop>(
     plant: &P,
     lines: &mut Lines,
     terminal: L,
-) -> Result<Desk<L>, Unanswered> {
+) -> Result<Desk<L>, Unanswered>
+    ensures {
+        Opened (BehindPlant (P.model plant.now) lines.old.rest.now lines.old.place)
+            (Tail lines.old.rest.now)
+            (λ desk. FollowedBehind (P.model plant.now) lines.old.rest.now
+            (service_of desk.talk.items)) result
+    }
+{
     let tariff = read_tariff(lines)?;
     let sweeps = read_sweeps(lines)?;
     read_end(lines)?;
     follow_under(heap, plant, tariff, sweeps, terminal)
 }
 
-/// Plans as a request asks, and follows the plan at a terminal until nothing more is heard.
-pub fn follow<L: Terminal + Drop>(
+fn follow_by_kind<L: Terminal + Drop>(
     heap: Global,
     text: &[u8],
     terminal: L,
-) -> Result<Desk<L>, Unanswered> {
+) -> Result<Desk<L>, Unanswered>
+    ensures {
+        Opened (RepliesTo text.now) (SomeRequest text.now)
+            (λ desk. FollowedText text.now (service_of desk.talk.items)) result
+    }
+{
     let kind = kind_of(text)?;
     let mut lines = Lines::new(text);
     match kind {
@@ -99,4 +128,23 @@ pub fn follow<L: Terminal + Drop>(
             follow_behind(heap, &pair, &mut lines, terminal)
         }
     }
+}
+
+/// Plans as a request asks, and follows the plan at a terminal until nothing more is heard there. Refused as the request is by
+/// the reply to it, with nothing heard or said. Want of memory is answered to requests only.
+pub fn follow<L: Terminal + Drop>(
+    heap: Global,
+    text: &[u8],
+    terminal: L,
+) -> Result<Desk<L>, Unanswered>
+    ensures reply {
+        Opened (RepliesTo text.now) (SomeRequest text.now)
+            (λ desk. FollowedText text.now (service_of desk.talk.items)) result
+    }
+    ensures law {
+        Opened (ReplyLaw text.now) (SomeRequest text.now)
+            (λ desk. FollowedText text.now (service_of desk.talk.items)) result
+    }
+{
+    follow_by_kind(heap, text, terminal)
 }

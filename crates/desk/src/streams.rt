@@ -1,5 +1,6 @@
 ghost use Rattle.std.specs.Prelude.{◌≡◌};
-ghost use Rattle.desk.specs.Streams.{kept, heard_lines, said_lines};
+ghost use Rattle.desk.specs.Histories.{newest};
+ghost use Rattle.desk.specs.Streams.{kept, heard_line, said_line};
 
 use crate::terminal::{HEARD_ROOM, Heard, Terminal};
 use http_server::Log;
@@ -41,6 +42,11 @@ pub fn read_line<R: Read>(reader: &mut R) -> Option<Heard> {
     if line.is_empty() { None } else { Some(line) }
 }
 
+// Writes a text at once; whether the stream took it.
+fn write_now<W: Write>(writer: &mut W, text: &[u8]) -> bool {
+    writer.write_all(text).is_ok() && writer.flush().is_ok()
+}
+
 /// A terminal of two streams: lines are heard from the one and said to the other.
 #[derive(Drop)]
 pub struct Streams<R, W> {
@@ -67,9 +73,9 @@ impl<R: Read, W: Write> Streams<R, W> {
 }
 
 impl<R: Read, W: Write> Terminal for Streams<R, W> {
-    ghost heard = { λ s. heard_lines s.heard.items };
+    ghost heard = { λ s. newest heard_line s.heard.items };
 
-    ghost said = { λ s. said_lines s.said.items };
+    ghost said = { λ s. newest said_line s.said.items };
 
     fn hear(&mut self) -> Option<Heard> {
         if !self.takes {
@@ -81,8 +87,7 @@ impl<R: Read, W: Write> Terminal for Streams<R, W> {
     }
 
     fn say(&mut self, line: &LineText) {
-        let written = self.writer.write_all(line.as_slice());
-        self.takes = self.takes && written.is_ok() && self.writer.flush().is_ok();
+        self.takes &= write_now(&mut self.writer, line.as_slice());
         self.said = self.said.and(line, &());
     }
 }

@@ -1,5 +1,6 @@
 use Rattle.std.proofs.Common.{◌≡◌, ◌-◌, ◌^◌}
-use Rattle.desk.specs.Talks.{newest, asks_in, tells_in}
+use Rattle.desk.specs.Histories.{newest}
+use Rattle.desk.specs.Talks.{asks_in, tells_in}
 use Rattle.desk.proofs.desk.Desk.ask.Given as goal
 
 abbrev pub invariant-loop-ask : goal.invariant-loop-ask

@@ -3,7 +3,8 @@ use Rattle.desk.specs.Asking.{asked}
 use Rattle.desk.specs.Saying.{refusal_line}
 use Rattle.desk.specs.Talks.{tells_in, refuses_by}
 use Rattle.desk.specs.declared.talk.Turn.TheVariants.{Heard}
-use Rattle.desk.proofs.TalkLaws.{goes_on, asks_heard, turned}
+use Rattle.desk.proofs.HistoryLaws.{entered}
+use Rattle.desk.proofs.TalkLaws.{goes_on, asks_heard}
 use Rattle.desk.proofs.desk.Desk.listen.Goals as goal
 
 pub invariant_of-self-in-Err : goal.invariant_of-self-in-Err
@@ -36,7 +37,7 @@ returns-in-Err-clause-asked g c =
     (sym c.in-Err.is ∙ c.asked-asked.ensures.value ∙ ap (asked c.args.due) c.as_slice.ensures.value)
 
 pub returns-in-Err-clause-told : goal.returns-in-Err-clause-told
-returns-in-Err-clause-told g c = turned tells_in c.args.self.now.talk.items c.and-self.result.items (Heard c.args.due c.in_ok-heard.heard) c.and-self.ensures
+returns-in-Err-clause-told g c = entered tells_in c.args.self.now.talk.items c.and-self.result.items (Heard c.args.due c.in_ok-heard.heard) c.and-self.ensures
 
 pub returns-in_default-clause-asked : goal.returns-in_default-clause-asked
 returns-in_default-clause-asked g c =
@@ -44,4 +45,4 @@ returns-in_default-clause-asked g c =
     (c.asked-asked.ensures.value ∙ ap (asked c.args.due) c.as_slice.ensures.value)
 
 pub returns-in_default-clause-told : goal.returns-in_default-clause-told
-returns-in_default-clause-told g c = turned tells_in c.args.self.now.talk.items c.and-self.result.items (Heard c.args.due c.in_ok-heard.heard) c.and-self.ensures
+returns-in_default-clause-told g c = entered tells_in c.args.self.now.talk.items c.and-self.result.items (Heard c.args.due c.in_ok-heard.heard) c.and-self.ensures

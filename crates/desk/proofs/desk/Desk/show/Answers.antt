@@ -1,7 +1,8 @@
 use Rattle.std.proofs.Common.{◌≡◌, ℕ, ◌+◌, ◌∷◌, List, rules, arith, refl, ap, ◌∙◌}
 use Rattle.desk.specs.declared.talk.Turn.TheVariants.{Shown}
 use Rattle.desk.specs.Talks.{asks_in, tells_in}
-use Rattle.desk.proofs.TalkLaws.{goes_on, turned}
+use Rattle.desk.proofs.HistoryLaws.{entered}
+use Rattle.desk.proofs.TalkLaws.{goes_on}
 use Rattle.desk.proofs.desk.Desk.show.Goals as goal
 
 pub invariant_of-self : goal.invariant_of-self
@@ -13,7 +14,7 @@ invariant_of-self g c =
     record { is_talk = goes_on (heard old.terminal) (said old.terminal) (heard c.say.new.self) (said c.say.new.self) old.lines old.lines old.talk.items c.and-self.result.items (Shown c.args.line, tt) old.is_talk counted c.say.ensures.heard c.say.ensures.said c.and-self.ensures }
 
 pub returns-clause-asked : goal.returns-clause-asked
-returns-clause-asked g c = turned asks_in c.args.self.now.talk.items c.and-self.result.items (Shown c.args.line) c.and-self.ensures
+returns-clause-asked g c = entered asks_in c.args.self.now.talk.items c.and-self.result.items (Shown c.args.line) c.and-self.ensures
 
 pub returns-clause-told : goal.returns-clause-told
-returns-clause-told g c = turned tells_in c.args.self.now.talk.items c.and-self.result.items (Shown c.args.line) c.and-self.ensures
+returns-clause-told g c = entered tells_in c.args.self.now.talk.items c.and-self.result.items (Shown c.args.line) c.and-self.ensures
