@@ -1,6 +1,8 @@
 -- What an operator asks of a book that follows one policy beside one plant, and is told.
 use Rattle.std.specs.Prelude.{◌≡◌, ℕ, Bool, true, false, ◌≤◌, ◌<◌, List, [], ◌∷◌, ◌++◌, map, length, Option, Some, None, option_map, All, ⊤}
+use Rattle.certificate.specs.declared.finding.Finding.{Finding}
 use Rattle.interface.specs.Plants.{Model}
+use Rattle.interface.specs.Rows.{Row}
 use Rattle.bookkeeping.specs.declared.stage.Stage.TheVariants.{Open}
 use Rattle.bookkeeping.specs.Books.{Account, Book, account_of, held_by}
 use Rattle.bookkeeping.specs.Log.{Log, Call, issue, carry_out, report, Reply, goes_on, refused, noted_seconds, noted_cents}
@@ -123,3 +125,11 @@ abbrev pub AsksCall : Book → List ℕ → Option asking.Call → List Ask → 
 AsksCall b ps None old new = new ≡ old
 AsksCall b ps (Some c) old new =
     (m : Model) → (fits b (asked m c) ≡ true) × IsBy m ps (asked m c) × (new ≡ ask_of (asked m c) ∷ old)
+
+-- The rows of a finding: low, high, top and bottom.
+abbrev pub rows_of : {A : Type 0} → (A → Row) → Finding A → List Row
+rows_of row f = row f.low ∷ row f.high ∷ row f.top ∷ row f.bottom ∷ []
+
+-- What held of rows before holds of them afterwards.
+abbrev pub Keeps : (List Row → Type 0) → (List Row → Type 0) → Type 0
+Keeps before after = (rows : List Row) → before rows → after rows

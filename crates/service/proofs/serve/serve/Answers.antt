@@ -34,5 +34,5 @@ returns-clause-promised g c =
       finds = record { low_kept = refl; high_kept = refl; top_found = finds.top_found; bottom_found = finds.bottom_found };
       tightest = subst (λ h. Tightest m t vs ps (row f.low) (row h)) high (subst (λ l. Tightest m t vs ps (row l) (row k.high)) low c.in_ok-claims.ensures.tightest);
       bound = subst (λ z. IfOk z (Promised row m t ps)) is_so c.accept.ensures.promise;
-      past = subst (λ z. Serves m ps z now (option_map book_of c.keep_book-book.result)) from c.keep_book-book.ensures;
+      past = subst (λ z. Serves m ps z now (option_map book_of c.keep_book-book.result)) from c.keep_book-book.ensures.served;
     }
