@@ -55,7 +55,8 @@ pub(crate) fn look_ahead_of<P: Plant, T: Tariff>(
     portfolio: usize,
 ) -> Option<T::Amount>
     ensures { option_map T.Tariff.row result ≡ ahead_of (T.scale tariff.now)
-        (map T.Tariff.row table.now.amounts.now) bill (outcomes_of (P.model plant.now) state portfolio) }
+        (map T.Tariff.row table.now.amounts.now) bill
+        (outcomes_of (P.model plant.now) state portfolio) }
 {
     let price = tariff.price(bill)?;
     let start = tariff.multiple(WHOLE, price)?;
