@@ -1,5 +1,6 @@
 // The check of a certificate.
-ghost use Rattle.std.specs.Prelude.{◌≡◌, ◌↔◌, ℕ, List, Some, ◌&&◌, map, length, ◌==◌, nat_le, IsOk, IfErr};
+ghost use Rattle.std.specs.Prelude.{◌≡◌, ◌↔◌, ℕ, List, Some, map, length, IsOk, IfErr};
+ghost use Rattle.std.specs.Prelude.{◌&&◌, ◌==◌, nat_le};
 ghost use Rattle.std.specs.Result.{result_err};
 ghost use Rattle.interface.specs.Rows.{reach};
 ghost use Rattle.interface.specs.Limits.{most_claim};

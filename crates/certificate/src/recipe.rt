@@ -8,7 +8,8 @@ ghost use Rattle.certificate.specs.Certificates.{Sound};
 ghost use Rattle.certificate.specs.Claims.{Recipe};
 ghost use Rattle.certificate.specs.ExactClaims.{Tightest};
 ghost use Rattle.certificate.specs.RecipeRefusedAs.{RecipeRefusedAs};
-ghost use Rattle.certificate.specs.Recipes.{Fitting, state_low, policy_gain, policy_fault, recipe_refusal};
+ghost use Rattle.certificate.specs.Recipes.{Fitting, state_low, policy_gain, policy_fault};
+ghost use Rattle.certificate.specs.Recipes.{recipe_refusal};
 ghost use Rattle.certificate.specs.RefusedAs.{IsRefused};
 ghost use Rattle.certificate.specs.Refusals.{first_fault, number_of, place_of};
 
