@@ -21,7 +21,7 @@ abbrev pub log_after : Log → List Call → Log
 log_after l [] = l
 log_after l (c ∷ cs) = log_after (after l c) cs
 
--- The calls that have a reply, as events, the newest first and before those of earlier.
+-- The calls that have a reply, as events before earlier ones, the newest first.
 abbrev pub events_after : List Event → List Call → List (Option Reply) → List Event
 events_after es [] rs = es
 events_after es (c ∷ cs) [] = es
