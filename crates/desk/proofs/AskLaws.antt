@@ -1,8 +1,8 @@
 -- What is due is asked exactly by its line.
-use Rattle.std.proofs.Common.{◌≡◌, ℕ, ◌^◌, ◌<◌, ◌≤◌, Bool, true, false, cond, List, ◌++◌, Some, None, Ok, Err, codes, decimal, Option, Result, sym, refl, ap, ◌∙◌, subst, arith, lit<}
+use Rattle.std.proofs.Common.{◌≡◌, ℕ, ◌≤◌, Bool, true, false, cond, List, Some, None, Ok, Err, codes, decimal, Option, Result, sym, refl, ap, ◌∙◌, subst, arith, lit<}
 use Rattle.std.specs.Str.{bytes_eq}
 use Rattle.std.proofs.lemmas.Slice.Eq.{bytes_eq-Decides}
-use Rattle.lines.specs.Line.{Said, pair, fault, line_at, Begins, ReadsAs}
+use Rattle.lines.specs.Line.{Said, pair, fault, Begins, ReadsAs}
 use Rattle.reading.specs.Values.{number_between}
 use Rattle.reading.specs.declared.rules.Rule.{Rule}
 use Rattle.reading.specs.declared.rules.Rule.TheVariants.{Unexpected}
@@ -11,7 +11,7 @@ use Rattle.desk.specs.declared.asking.Due.{Due}
 use Rattle.desk.specs.declared.asking.Due.TheVariants as due
 use Rattle.desk.specs.declared.asking.Ask.{Ask}
 use Rattle.desk.specs.declared.asking.Ask.TheVariants as ask
-use Rattle.desk.specs.Asking.{most_number, in_range, number_of, asks, called, key_of, ask_of, asked_by, asked, Suits, value_text, BeginsAsking, AsksExactly}
+use Rattle.desk.specs.Asking.{most_number, in_range, number_of, asks, key_of, ask_of, asked_by, Suits, value_text, BeginsAsking, AsksExactly}
 
 -- a number that is asked is written in digits and in range
 number_asked : (make : ℕ → Ask) (value : List ℕ) (o : Option ℕ) (a : Ask) → number_between value 0 most_number ≡ o → asks make (in_range o) ≡ Ok a → (n : ℕ) × (a ≡ make n) × (value ≡ decimal n) × (n ≤ most_number)

@@ -1,4 +1,5 @@
 mod AskLaws
 mod HistoryLaws
 mod OpeningLaws
+mod RequestLaws
 mod TalkLaws

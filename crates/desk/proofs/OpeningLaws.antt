@@ -1,17 +1,13 @@
 -- From a request that was read to the plan that is followed.
-use Rattle.std.proofs.Common.{◌≡◌, ℕ, List, ◌++◌, map, Ok, Err, Option, Result, refl, sym, ap, ◌∙◌, subst, inl, inr}
+use Rattle.std.proofs.Common.{◌≡◌, ℕ, List, ◌++◌, Ok, Err, Result, refl, ap, ◌∙◌, subst, inl, inr}
 use Rattle.std.proofs.lemmas.List.{append-nil}
 use Rattle.interface.specs.Plants.{Model}
-use Rattle.interface.specs.Rows.{Row}
-use Rattle.interface.specs.Tariffs.{Scale}
 use Rattle.chain.specs.Chains.{chain_model}
 use Rattle.chain.specs.declared.plant.Chain.{Chain}
 use Rattle.chaintext.specs.Writing.{BeginsChain, ReadsFrom}
 use Rattle.pair.specs.Pairs.{pair_model}
 use Rattle.pair.specs.declared.plant.Pair.{Pair}
 use Rattle.pairtext.specs.Writing.{BeginsPair, ReadsPair}
-use Rattle.planner.specs.Answers.{Tables}
-use Rattle.planner.specs.declared.refusal.Refusal.{Refusal as PlannerRefusal}
 use Rattle.reading.specs.Written.{number_line}
 use Rattle.reading.specs.declared.keys.Key.TheVariants.{Sweeps}
 use Rattle.request.specs.declared.sweeps.SweepsLine.{SweepsLine}
@@ -20,10 +16,8 @@ use Rattle.request.specs.Writing.{tariff_line, ReadsTariff, ReadsSweeps, ReadsEn
 use Rattle.reply.specs.declared.answer.Unanswered.{Unanswered}
 use Rattle.reply.specs.declared.answer.Unanswered.TheVariants.{Refused, NoMemory}
 use Rattle.reply.specs.Replies.{Reply, scale_of}
-use Rattle.service.specs.Planning.{AllPromised, PlannedAs}
 use Rattle.service.specs.Services as service
-use Rattle.service.specs.declared.serve.Served.{Served}
-use Rattle.desk.specs.Opening.{silence, Followed, FollowedBehind, FollowedText, Opened}
+use Rattle.desk.specs.Opening.{Followed, FollowedBehind, FollowedText, Opened}
 
 -- what holds of an opening holds of what follows from it
 pub follows : {D V W : Type 0} {P Q : Reply → Type 0} {F G : D → Type 0} (r : Result D Unanswered) → ((a : Reply) → P a → Q a) → (V → W) → ((d : D) → F d → G d) → Opened P V F r → Opened Q W G r

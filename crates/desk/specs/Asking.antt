@@ -1,5 +1,5 @@
 -- What a line asks, by what is due.
-use Rattle.std.specs.Prelude.{◌≡◌, ℕ, ◌-◌, ◌^◌, ◌≤◌, ⊤, List, ◌++◌, Some, None, Ok, Err, codes, decimal, Option, Result, if◌then◌else◌}
+use Rattle.std.specs.Prelude.{◌≡◌, ℕ, ◌-◌, ◌^◌, ◌≤◌, ⊤, List, Some, None, Ok, Err, codes, decimal, Option, Result, if◌then◌else◌}
 use Rattle.std.specs.Str.{bytes_eq}
 use Rattle.lines.specs.Exactly.{Iff}
 use Rattle.lines.specs.Line.{Said, pair, fault, line_at, Begins}

@@ -9,7 +9,10 @@ use Rattle.desk.specs.declared.talk.Turn.{Turn}
 use Rattle.desk.specs.declared.talk.Turn.TheVariants.{Heard, Told, Shown}
 use Rattle.desk.specs.Asking.{asked}
 use Rattle.desk.specs.Histories.{History, newest}
-use Rattle.desk.specs.Saying.{refusal_line, told_line, told_of}
+use Rattle.desk.specs.Saying.{claim_line, refusal_line, told_line, told_of}
+use Rattle.desk.specs.declared.saying.Claim.TheVariants.{Low, High, Top, Bottom}
+use Rattle.interface.specs.Rows.{Row}
+use Rattle.certificate.specs.declared.finding.Finding.{Finding}
 
 -- The turns of a talk, the oldest first.
 abbrev pub Talk : Type 0
@@ -22,7 +25,7 @@ ask_of Order = service.to_issue
 ask_of CarryOut = service.to_carry_out
 ask_of (Outcome n) = service.to_report n
 
--- A line asks what is due, or breaks a rule and is refused with its number in the input.
+-- A line asks what is due, or breaks a rule and is refused with its number.
 abbrev pub asks_by : Result Ask Rule → List service.Ask
 asks_by (Ok a) = ask_of a ∷ []
 asks_by (Err rule) = []
@@ -42,7 +45,7 @@ tells_in (Heard d line) = []
 tells_in (Told t) = told_of t ∷ []
 tells_in (Shown line) = []
 
--- The line that is heard in a turn, and the line that is said: line n of the input is refused as that line.
+-- The line that is heard in a turn, and the line that is said: the nth line that is heard is refused as line n.
 abbrev pub hears_in : Turn → List (List ℕ)
 hears_in (Heard d line) = line.items ∷ []
 hears_in (Told t) = []
@@ -53,14 +56,20 @@ says_in n (Heard d line) = refuses_by n (asked d line.items)
 says_in n (Told t) = told_line (told_of t) ∷ []
 says_in n (Shown line) = line.bytes.items ∷ []
 
--- How many lines were read of the input after a turn.
-abbrev pub read_after : ℕ → Turn → ℕ
-read_after n t = n + length (hears_in t)
+-- The line of a finding that is shown in a turn.
+abbrev pub shows_in : Turn → List (List ℕ)
+shows_in (Heard d line) = []
+shows_in (Told t) = []
+shows_in (Shown line) = line.bytes.items ∷ []
 
--- All lines that are said in a talk, the newest first, where so many lines of the input were read before it.
+-- How many lines were heard after a turn.
+abbrev pub heard_after : ℕ → Turn → ℕ
+heard_after n t = n + length (hears_in t)
+
+-- All lines that are said in a talk, the newest first, where so many lines were heard before it.
 abbrev pub said_from : ℕ → Talk → List (List ℕ)
 said_from n [] = []
-said_from n (t ∷ ts) = said_from (read_after n t.0) ts ++ says_in (read_after n t.0) t.0
+said_from n (t ∷ ts) = said_from (heard_after n t.0) ts ++ says_in (heard_after n t.0) t.0
 
 -- What was asked before and after a line is heard, if one is.
 abbrev pub Hears : Option (Result Ask Rule) → List service.Ask → List service.Ask → Type 0
@@ -68,16 +77,19 @@ Hears None old new = new ≡ old
 Hears (Some asked) old new = new ≡ asks_by asked ++ old
 
 -- What was heard and said at a terminal is the talk: after the lines that were heard and said before it, each line of the talk
--- was heard, and all that the talk says was said, in turn; and so many lines of the input were read.
-pub record IsTalk (heard said : List (List ℕ)) (lines : ℕ) (talk : Talk) : Type 0 where
-  pub first : ℕ
+-- was heard, and all that the talk says was said, in turn. The lines that were heard before count in the numbers of refusals.
+pub record IsTalk (heard said : List (List ℕ)) (talk : Talk) : Type 0 where
   pub heard_before : List (List ℕ)
   pub said_before : List (List ℕ)
   pub heard_all : heard ≡ newest hears_in talk ++ heard_before
-  pub said_all : said ≡ said_from first talk ++ said_before
-  pub counted : lines ≡ first + length (newest hears_in talk)
+  pub said_all : said ≡ said_from (length heard_before) talk ++ said_before
 
 -- What was asked before and after a desk waits for what is due, if it comes.
 abbrev pub Asks : Option Ask → List service.Ask → List service.Ask → Type 0
 Asks None old new = new ≡ old
 Asks (Some a) old new = new ≡ ask_of a ∷ old
+
+-- The lines of a finding were shown, in this order: low, high, top and bottom.
+abbrev pub ShowsFinding : {A : Type 0} → (A → Row) → Finding A → List (List ℕ) → List (List ℕ) → Type 0
+ShowsFinding row f old new =
+    new ≡ claim_line Bottom (row f.bottom) ∷ (claim_line Top (row f.top) ∷ (claim_line High (row f.high) ∷ (claim_line Low (row f.low) ∷ old)))

@@ -1,8 +1,8 @@
-ghost use Rattle.std.specs.Prelude.{◌≡◌, ◌+◌, ◌^◌, ◌<◌, [], ◌∷◌, IfSome, IfOk};
+ghost use Rattle.std.specs.Prelude.{◌≡◌, ◌+◌, ◌^◌, ◌<◌, [], ◌∷◌, length, IfSome, IfOk};
 ghost use Rattle.desk.specs.Asking.{Suits};
 ghost use Rattle.desk.specs.Histories.{newest};
 ghost use Rattle.desk.specs.Saying.{told_of};
-ghost use Rattle.desk.specs.Talks.{asks_in, tells_in, Hears, Asks, IsTalk};
+ghost use Rattle.desk.specs.Talks.{asks_in, tells_in, shows_in, Hears, Asks, IsTalk, ShowsFinding};
 
 use crate::asking::{Ask, Due, asked};
 use crate::saying::{Claim, Shown, Told, refusal_line};
@@ -21,39 +21,34 @@ use service::operator::Operator;
 #[derive(Drop)]
 pub struct Desk<L: Terminal> {
     terminal: L,
-    // how many lines of the input were read
-    lines: usize,
     // all turns so far, for proofs alone
     talk: Log<Turn, ()>,
     // the terminal heard and said these turns and nothing else since the desk was opened
-    ghost is_talk: { ∥ IsTalk (L.heard terminal) (L.said terminal) lines talk.items ∥₁ },
+    ghost is_talk: { ∥ IsTalk (L.heard terminal) (L.said terminal) talk.items ∥₁ },
 }
 
 impl<L: Terminal> Desk<L> {
-    /// A desk at a terminal, where so many lines of the input were read.
-    pub fn new(terminal: L, lines: usize) -> Desk<L>
+    /// A desk at a terminal.
+    pub fn new(terminal: L) -> Desk<L>
         ensures { result.talk.items ≡ [] }
     {
         Desk {
             terminal,
-            lines,
             talk: Log::new(),
         }
     }
 
     // What the next line asks, if that is what is due; else the line is refused. None where nothing more is heard.
     fn listen(&mut self, due: Due) -> Option<Result<Ask, Rule>>
-        ensures asked {
-            Hears result (newest asks_in self.old.talk.items) (newest asks_in self.new.talk.items)
-        }
+        ensures asked { Hears result (newest asks_in self.old.talk.items) (newest asks_in self.new.talk.items) }
         ensures told { newest tells_in self.new.talk.items ≡ newest tells_in self.old.talk.items }
         ensures suits { IfSome result (λ asked. IfOk asked (Suits due)) }
-        ensures counted { IfSome result (λ _. self.new.lines ≡ self.old.lines + 1) }
-        ensures fits { IfSome result (λ _. self.new.lines < 2 ^ 64) }
+        ensures counted { IfSome result (λ _. length (L.heard self.new.terminal)
+            ≡ length (L.heard self.old.terminal) + 1) }
+        ensures fits { IfSome result (λ _. length (L.heard self.new.terminal) < 2 ^ 64) }
     {
-        let line = self.lines.checked_add(1)?;
         let heard = self.terminal.hear()?;
-        self.lines = line;
+        let line = self.terminal.lines();
         let asked = asked(due, heard.as_slice());
         let turn = Turn::Heard(due, heard);
         self.talk = self.talk.and(&turn, &());
@@ -65,9 +60,7 @@ impl<L: Terminal> Desk<L> {
 
     // What is due, as soon as a line asks it; each line before that is refused. None where nothing more is heard.
     fn ask(&mut self, due: Due) -> Option<Ask>
-        ensures asked {
-            Asks result (newest asks_in self.old.talk.items) (newest asks_in self.new.talk.items)
-        }
+        ensures asked { Asks result (newest asks_in self.old.talk.items) (newest asks_in self.new.talk.items) }
         ensures told { newest tells_in self.new.talk.items ≡ newest tells_in self.old.talk.items }
         ensures suits { IfSome result (Suits due) }
     {
@@ -81,10 +74,8 @@ impl<L: Terminal> Desk<L> {
     // Says what the operator is told.
     fn say(&mut self, told: Told)
         ensures asked { newest asks_in self.new.talk.items ≡ newest asks_in self.old.talk.items }
-        ensures told {
-            newest tells_in self.new.talk.items
-                ≡ told_of told ∷ newest tells_in self.old.talk.items
-        }
+        ensures told { newest tells_in self.new.talk.items
+            ≡ told_of told ∷ newest tells_in self.old.talk.items }
     {
         let turn = Turn::Told(told);
         self.talk = self.talk.and(&turn, &());
@@ -95,6 +86,8 @@ impl<L: Terminal> Desk<L> {
     fn show(&mut self, line: LineText)
         ensures asked { newest asks_in self.new.talk.items ≡ newest asks_in self.old.talk.items }
         ensures told { newest tells_in self.new.talk.items ≡ newest tells_in self.old.talk.items }
+        ensures shown { newest shows_in self.new.talk.items
+            ≡ line.bytes.items ∷ newest shows_in self.old.talk.items }
     {
         self.terminal.say(&line);
         let turn = Turn::Shown(line);
@@ -107,7 +100,12 @@ impl<L: Terminal> Operator for Desk<L> {
 
     ghost told = { λ desk. newest tells_in desk.talk.items };
 
-    fn found<T: Tariff>(&mut self, tariff: &T, finding: &Finding<T::Amount>) {
+    fn found<T: Tariff>(&mut self, tariff: &T, finding: &Finding<T::Amount>)
+        ensures asked { newest asks_in self.new.talk.items ≡ newest asks_in self.old.talk.items }
+        ensures told { newest tells_in self.new.talk.items ≡ newest tells_in self.old.talk.items }
+        ensures shown { ShowsFinding T.Tariff.row finding.now (newest shows_in self.old.talk.items)
+            (newest shows_in self.new.talk.items) }
+    {
         self.show(Claim::Low.line(tariff, finding.low));
         self.show(Claim::High.line(tariff, finding.high));
         self.show(Claim::Top.line(tariff, finding.top));

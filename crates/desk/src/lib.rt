@@ -4,6 +4,7 @@
 pub mod asking;
 pub mod desk;
 pub mod opening;
+pub mod requesting;
 pub mod saying;
 pub mod streams;
 pub mod talk;

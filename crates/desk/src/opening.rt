@@ -31,17 +31,15 @@ fn follow_with<P: Plant, T: Tariff, L: Terminal + Drop>(
     terminal: L,
 ) -> Result<Desk<L>, Unanswered>
     requires { sweeps.count ≤ most_sweeps }
-    ensures {
-        Opened (PlansAs (P.model plant.now) (T.scale tariff.now) sweeps) (Unit {0})
-            (λ desk. Followed (P.model plant.now) (T.scale tariff.now) sweeps.count
-            (service_of desk.talk.items)) result
-    }
+    ensures { Opened (PlansAs (P.model plant.now) (T.scale tariff.now) sweeps) (Unit {0})
+        (λ desk. Followed (P.model plant.now) (T.scale tariff.now) sweeps.count
+        (service_of desk.talk.items)) result }
 {
     let states = plant.states();
     let mut values = vec![in heap; tariff.zero(); states]?;
     let mut working = vec![in heap; tariff.zero(); states]?;
     let mut policy = vec![in heap; 0; states]?;
-    let mut desk = Desk::new(terminal, sweeps.line);
+    let mut desk = Desk::new(terminal);
     let served = serve(
         plant,
         tariff,
@@ -68,11 +66,9 @@ fn follow_under<P: Plant, L: Terminal + Drop>(
 ) -> Result<Desk<L>, Unanswered>
     requires rate { RateInRange tariff }
     requires few { sweeps.count ≤ most_sweeps }
-    ensures {
-        Opened (PlansAs (P.model plant.now) (scale_of tariff) sweeps) (Unit {0})
-            (λ desk. Followed (P.model plant.now) (scale_of tariff) sweeps.count
-            (service_of desk.talk.items)) result
-    }
+    ensures { Opened (PlansAs (P.model plant.now) (scale_of tariff) sweeps) (Unit {0})
+        (λ desk. Followed (P.model plant.now) (scale_of tariff) sweeps.count
+        (service_of desk.talk.items)) result }
 {
     match tariff {
         TariffChoice::Priced(rate) => follow_with(
@@ -93,12 +89,10 @@ fn follow_behind<P: Plant, L: Terminal + Drop>(
     lines: &mut Lines,
     terminal: L,
 ) -> Result<Desk<L>, Unanswered>
-    ensures {
-        Opened (BehindPlant (P.model plant.now) lines.old.rest.now lines.old.place)
-            (Tail lines.old.rest.now)
-            (λ desk. FollowedBehind (P.model plant.now) lines.old.rest.now
-            (service_of desk.talk.items)) result
-    }
+    ensures { Opened (BehindPlant (P.model plant.now) lines.old.rest.now lines.old.place)
+        (Tail lines.old.rest.now)
+        (λ desk. FollowedBehind (P.model plant.now) lines.old.rest.now
+        (service_of desk.talk.items)) result }
 {
     let tariff = read_tariff(lines)?;
     let sweeps = read_sweeps(lines)?;
@@ -111,10 +105,8 @@ fn follow_by_kind<L: Terminal + Drop>(
     text: &[u8],
     terminal: L,
 ) -> Result<Desk<L>, Unanswered>
-    ensures {
-        Opened (RepliesTo text.now) (SomeRequest text.now)
-            (λ desk. FollowedText text.now (service_of desk.talk.items)) result
-    }
+    ensures { Opened (RepliesTo text.now) (SomeRequest text.now)
+        (λ desk. FollowedText text.now (service_of desk.talk.items)) result }
 {
     let kind = kind_of(text)?;
     let mut lines = Lines::new(text);
@@ -137,14 +129,10 @@ pub fn follow<L: Terminal + Drop>(
     text: &[u8],
     terminal: L,
 ) -> Result<Desk<L>, Unanswered>
-    ensures reply {
-        Opened (RepliesTo text.now) (SomeRequest text.now)
-            (λ desk. FollowedText text.now (service_of desk.talk.items)) result
-    }
-    ensures law {
-        Opened (ReplyLaw text.now) (SomeRequest text.now)
-            (λ desk. FollowedText text.now (service_of desk.talk.items)) result
-    }
+    ensures reply { Opened (RepliesTo text.now) (SomeRequest text.now)
+        (λ desk. FollowedText text.now (service_of desk.talk.items)) result }
+    ensures law { Opened (ReplyLaw text.now) (SomeRequest text.now)
+        (λ desk. FollowedText text.now (service_of desk.talk.items)) result }
 {
     follow_by_kind(heap, text, terminal)
 }

@@ -1,4 +1,4 @@
-ghost use Rattle.std.specs.Prelude.{◌≡◌};
+ghost use Rattle.std.specs.Prelude.{◌≡◌, length};
 ghost use Rattle.desk.specs.Histories.{newest};
 ghost use Rattle.desk.specs.Streams.{kept, heard_line, said_line};
 
@@ -52,11 +52,14 @@ fn write_now<W: Write>(writer: &mut W, text: &[u8]) -> bool {
 pub struct Streams<R, W> {
     reader: R,
     writer: W,
+    // how many lines were heard
+    lines: usize,
     // whether the writer took every line so far
     takes: bool,
     // the lines that were heard and said, for proofs alone
     heard: Log<Heard, ()>,
     said: Log<LineText, ()>,
+    ghost counted: { lines ≡ length (newest heard_line heard.items) },
 }
 
 impl<R: Read, W: Write> Streams<R, W> {
@@ -65,6 +68,7 @@ impl<R: Read, W: Write> Streams<R, W> {
         Streams {
             reader,
             writer,
+            lines: 0,
             takes: true,
             heard: Log::new(),
             said: Log::new(),
@@ -81,9 +85,15 @@ impl<R: Read, W: Write> Terminal for Streams<R, W> {
         if !self.takes {
             return None;
         }
+        let lines = self.lines.checked_add(1)?;
         let line = read_line(&mut self.reader)?;
+        self.lines = lines;
         self.heard = self.heard.and(&line, &());
         Some(line)
+    }
+
+    fn lines(&self) -> usize {
+        self.lines
     }
 
     fn say(&mut self, line: &LineText) {

@@ -1,4 +1,4 @@
-ghost use Rattle.std.specs.Prelude.{◌≡◌, ℕ, List, ◌∷◌};
+ghost use Rattle.std.specs.Prelude.{◌≡◌, ℕ, List, ◌∷◌, length};
 ghost use Rattle.desk.specs.Terminals.{Hears};
 
 use arrayvec::ArrayVec;
@@ -22,6 +22,10 @@ pub trait Terminal {
     fn hear(&mut self) -> Option<Heard>
         ensures heard { Hears result (heard self.old) (heard self.new) }
         ensures said { said self.new ≡ said self.old };
+
+    /// How many lines were heard: the number of the newest.
+    fn lines(&self) -> usize
+        ensures { result ≡ length (heard self.now) };
 
     /// Says a line at once. Where that fails, nothing more is heard.
     fn say(&mut self, line: &LineText)

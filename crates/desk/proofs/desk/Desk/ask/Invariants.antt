@@ -1,4 +1,4 @@
-use Rattle.std.proofs.Common.{◌≡◌, ◌-◌, ◌^◌}
+use Rattle.std.proofs.Common.{◌≡◌, ◌-◌, ◌^◌, length}
 use Rattle.desk.specs.Histories.{newest}
 use Rattle.desk.specs.Talks.{asks_in, tells_in}
 use Rattle.desk.proofs.desk.Desk.ask.Given as goal
@@ -10,4 +10,4 @@ invariant-loop-ask g l = record {
 }
 
 abbrev pub decreases-loop-ask : goal.decreases-loop-ask
-decreases-loop-ask g l = 2 ^ 64 - l.self.lines
+decreases-loop-ask g l = 2 ^ 64 - length (g.L.Terminal.heard l.self.terminal)

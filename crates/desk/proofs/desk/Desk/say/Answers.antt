@@ -1,4 +1,4 @@
-use Rattle.std.proofs.Common.{◌≡◌, ℕ, ◌+◌, ◌∷◌, List, rules, arith, refl, ap, ◌∙◌}
+use Rattle.std.proofs.Common.{◌∷◌, ap, ◌∙◌}
 use Rattle.desk.specs.declared.talk.Turn.TheVariants.{Told}
 use Rattle.desk.specs.Talks.{asks_in, tells_in}
 use Rattle.desk.proofs.HistoryLaws.{entered}
@@ -10,9 +10,8 @@ invariant_of-self g c =
     let heard = g.L.Terminal.heard in
     let said = g.L.Terminal.said in
     let old = c.args.self.now in
-    let counted : old.lines ≡ old.lines + 0 = omega arith in
     let line = c.say.ensures.said ∙ ap (λ l. l ∷ said old.terminal) c.line.ensures in
-    record { is_talk = goes_on (heard old.terminal) (said old.terminal) (heard c.say.new.self) (said c.say.new.self) old.lines old.lines old.talk.items c.and-self.result.items (Told c.args.told, tt) old.is_talk counted c.say.ensures.heard line c.and-self.ensures }
+    record { is_talk = goes_on (heard old.terminal) (said old.terminal) (heard c.say.new.self) (said c.say.new.self) old.talk.items c.and-self.result.items (Told c.args.told, tt) old.is_talk c.say.ensures.heard line c.and-self.ensures }
 
 pub returns-clause-asked : goal.returns-clause-asked
 returns-clause-asked g c = entered asks_in c.args.self.now.talk.items c.and-self.result.items (Told c.args.told) c.and-self.ensures

@@ -1,6 +1,5 @@
-use Rattle.std.proofs.Common.{◌≡◌, ℕ, ◌+◌, ◌∷◌, List, rules, arith, refl, ap, ◌∙◌}
 use Rattle.desk.specs.declared.talk.Turn.TheVariants.{Shown}
-use Rattle.desk.specs.Talks.{asks_in, tells_in}
+use Rattle.desk.specs.Talks.{asks_in, tells_in, shows_in}
 use Rattle.desk.proofs.HistoryLaws.{entered}
 use Rattle.desk.proofs.TalkLaws.{goes_on}
 use Rattle.desk.proofs.desk.Desk.show.Goals as goal
@@ -10,11 +9,13 @@ invariant_of-self g c =
     let heard = g.L.Terminal.heard in
     let said = g.L.Terminal.said in
     let old = c.args.self.now in
-    let counted : old.lines ≡ old.lines + 0 = omega arith in
-    record { is_talk = goes_on (heard old.terminal) (said old.terminal) (heard c.say.new.self) (said c.say.new.self) old.lines old.lines old.talk.items c.and-self.result.items (Shown c.args.line, tt) old.is_talk counted c.say.ensures.heard c.say.ensures.said c.and-self.ensures }
+    record { is_talk = goes_on (heard old.terminal) (said old.terminal) (heard c.say.new.self) (said c.say.new.self) old.talk.items c.and-self.result.items (Shown c.args.line, tt) old.is_talk c.say.ensures.heard c.say.ensures.said c.and-self.ensures }
 
 pub returns-clause-asked : goal.returns-clause-asked
 returns-clause-asked g c = entered asks_in c.args.self.now.talk.items c.and-self.result.items (Shown c.args.line) c.and-self.ensures
 
 pub returns-clause-told : goal.returns-clause-told
 returns-clause-told g c = entered tells_in c.args.self.now.talk.items c.and-self.result.items (Shown c.args.line) c.and-self.ensures
+
+pub returns-clause-shown : goal.returns-clause-shown
+returns-clause-shown g c = entered shows_in c.args.self.now.talk.items c.and-self.result.items (Shown c.args.line) c.and-self.ensures
