@@ -12,7 +12,6 @@ use Rattle.desk.specs.Histories.{History, newest}
 use Rattle.desk.specs.Saying.{claim_line, refusal_line, told_line, told_of}
 use Rattle.desk.specs.declared.saying.Claim.TheVariants.{Low, High, Top, Bottom}
 use Rattle.interface.specs.Rows.{Row}
-use Rattle.certificate.specs.declared.finding.Finding.{Finding}
 
 -- The turns of a talk, the oldest first.
 abbrev pub Talk : Type 0
@@ -89,7 +88,8 @@ abbrev pub Asks : Option Ask → List service.Ask → List service.Ask → Type 
 Asks None old new = new ≡ old
 Asks (Some a) old new = new ≡ ask_of a ∷ old
 
--- The lines of a finding were shown, in this order: low, high, top and bottom.
-abbrev pub ShowsFinding : {A : Type 0} → (A → Row) → Finding A → List (List ℕ) → List (List ℕ) → Type 0
-ShowsFinding row f old new =
-    new ≡ claim_line Bottom (row f.bottom) ∷ (claim_line Top (row f.top) ∷ (claim_line High (row f.high) ∷ (claim_line Low (row f.low) ∷ old)))
+-- The last finding that was shown has these rows: its four lines, of low, high, top and bottom, are the last that were shown.
+abbrev pub WasShown : List (List ℕ) → List Row → Type 0
+WasShown shown (low ∷ high ∷ top ∷ bottom ∷ []) =
+    (before : List (List ℕ)) × (shown ≡ claim_line Bottom bottom ∷ claim_line Top top ∷ claim_line High high ∷ claim_line Low low ∷ before)
+WasShown shown rows = ⊥

@@ -1,8 +1,8 @@
-ghost use Rattle.std.specs.Prelude.{◌≡◌, ◌+◌, ◌^◌, ◌<◌, [], ◌∷◌, length, IfSome, IfOk};
+ghost use Rattle.std.specs.Prelude.{◌≡◌, ◌+◌, ◌-◌, ◌^◌, ◌<◌, [], ◌∷◌, length, IfNone, IfSome, IfOk};
 ghost use Rattle.desk.specs.Asking.{Suits};
 ghost use Rattle.desk.specs.Histories.{newest};
 ghost use Rattle.desk.specs.Saying.{told_of};
-ghost use Rattle.desk.specs.Talks.{asks_in, tells_in, shows_in, Hears, Asks, IsTalk, ShowsFinding};
+ghost use Rattle.desk.specs.Talks.{asks_in, tells_in, shows_in, Hears, Asks, IsTalk, WasShown};
 
 use crate::asking::{Ask, Due, asked};
 use crate::saying::{Claim, Shown, Told, refusal_line};
@@ -46,6 +46,8 @@ impl<L: Terminal> Desk<L> {
         ensures counted { IfSome result (λ _. length (L.heard self.new.terminal)
             ≡ length (L.heard self.old.terminal) + 1) }
         ensures fits { IfSome result (λ _. length (L.heard self.new.terminal) < 2 ^ 64) }
+        ensures over { IfNone result (L.is_over self.new.terminal) }
+        ensures shown { newest shows_in self.new.talk.items ≡ newest shows_in self.old.talk.items }
     {
         let heard = self.terminal.hear()?;
         let line = self.terminal.lines();
@@ -63,6 +65,11 @@ impl<L: Terminal> Desk<L> {
         ensures asked { Asks result (newest asks_in self.old.talk.items) (newest asks_in self.new.talk.items) }
         ensures told { newest tells_in self.new.talk.items ≡ newest tells_in self.old.talk.items }
         ensures suits { IfSome result (Suits due) }
+        ensures fewer { IfSome result (λ _. length (L.heard self.old.terminal)
+            < length (L.heard self.new.terminal)) }
+        ensures fits { IfSome result (λ _. length (L.heard self.new.terminal) < 2 ^ 64) }
+        ensures over { IfNone result (L.is_over self.new.terminal) }
+        ensures shown { newest shows_in self.new.talk.items ≡ newest shows_in self.old.talk.items }
     {
         loop {
             if let Ok(ask) = self.listen(due)? {
@@ -76,6 +83,8 @@ impl<L: Terminal> Desk<L> {
         ensures asked { newest asks_in self.new.talk.items ≡ newest asks_in self.old.talk.items }
         ensures told { newest tells_in self.new.talk.items
             ≡ told_of told ∷ newest tells_in self.old.talk.items }
+        ensures heard { L.heard self.new.terminal ≡ L.heard self.old.terminal }
+        ensures shown { newest shows_in self.new.talk.items ≡ newest shows_in self.old.talk.items }
     {
         let turn = Turn::Told(told);
         self.talk = self.talk.and(&turn, &());
@@ -88,6 +97,7 @@ impl<L: Terminal> Desk<L> {
         ensures told { newest tells_in self.new.talk.items ≡ newest tells_in self.old.talk.items }
         ensures shown { newest shows_in self.new.talk.items
             ≡ line.bytes.items ∷ newest shows_in self.old.talk.items }
+        ensures heard { L.heard self.new.terminal ≡ L.heard self.old.terminal }
     {
         self.terminal.say(&line);
         let turn = Turn::Shown(line);
@@ -100,12 +110,13 @@ impl<L: Terminal> Operator for Desk<L> {
 
     ghost told = { λ desk. newest tells_in desk.talk.items };
 
-    fn found<T: Tariff>(&mut self, tariff: &T, finding: &Finding<T::Amount>)
-        ensures asked { newest asks_in self.new.talk.items ≡ newest asks_in self.old.talk.items }
-        ensures told { newest tells_in self.new.talk.items ≡ newest tells_in self.old.talk.items }
-        ensures shown { ShowsFinding T.Tariff.row finding.now (newest shows_in self.old.talk.items)
-            (newest shows_in self.new.talk.items) }
-    {
+    ghost was_shown = { λ desk. WasShown (newest shows_in desk.talk.items) };
+
+    ghost left = { λ desk. 2 ^ 64 - length (L.heard desk.terminal) };
+
+    ghost is_done = { λ desk. L.is_over desk.terminal };
+
+    fn found<T: Tariff>(&mut self, tariff: &T, finding: &Finding<T::Amount>) {
         self.show(Claim::Low.line(tariff, finding.low));
         self.show(Claim::High.line(tariff, finding.high));
         self.show(Claim::Top.line(tariff, finding.top));

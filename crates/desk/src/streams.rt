@@ -1,4 +1,4 @@
-ghost use Rattle.std.specs.Prelude.{◌≡◌, length};
+ghost use Rattle.std.specs.Prelude.{◌≡◌, ◌+◌, ◌<◌, ◌^◌, true, length, IfSome};
 ghost use Rattle.desk.specs.Histories.{newest};
 ghost use Rattle.desk.specs.Streams.{kept, heard_line, said_line};
 
@@ -56,6 +56,8 @@ pub struct Streams<R, W> {
     lines: usize,
     // whether the writer took every line so far
     takes: bool,
+    // whether no line was left when one was to be heard
+    over: bool,
     // the lines that were heard and said, for proofs alone
     heard: Log<Heard, ()>,
     said: Log<LineText, ()>,
@@ -70,9 +72,23 @@ impl<R: Read, W: Write> Streams<R, W> {
             writer,
             lines: 0,
             takes: true,
+            over: false,
             heard: Log::new(),
             said: Log::new(),
         }
+    }
+
+    // The next line, if the writer still takes lines and they can still be counted.
+    fn left_to_hear(&mut self) -> Option<Heard>
+        ensures heard { self.new.heard ≡ self.old.heard }
+        ensures said { self.new.said ≡ self.old.said }
+        ensures lines { self.new.lines ≡ self.old.lines }
+        ensures counted { IfSome result (λ _. self.old.lines + 1 < 2 ^ 64) }
+    {
+        if !self.takes || self.lines == usize::MAX {
+            return None;
+        }
+        read_line(&mut self.reader)
     }
 }
 
@@ -81,13 +97,14 @@ impl<R: Read, W: Write> Terminal for Streams<R, W> {
 
     ghost said = { λ s. newest said_line s.said.items };
 
+    ghost is_over = { λ s. s.over ≡ true };
+
     fn hear(&mut self) -> Option<Heard> {
-        if !self.takes {
+        let Some(line) = self.left_to_hear() else {
+            self.over = true;
             return None;
-        }
-        let lines = self.lines.checked_add(1)?;
-        let line = read_line(&mut self.reader)?;
-        self.lines = lines;
+        };
+        self.lines += 1;
         self.heard = self.heard.and(&line, &());
         Some(line)
     }

@@ -1,4 +1,4 @@
-ghost use Rattle.std.specs.Prelude.{◌≡◌, ℕ, List, ◌∷◌, length};
+ghost use Rattle.std.specs.Prelude.{◌≡◌, ℕ, List, ◌∷◌, length, IfNone};
 ghost use Rattle.desk.specs.Terminals.{Hears};
 
 use arrayvec::ArrayVec;
@@ -18,10 +18,14 @@ pub trait Terminal {
     /// The lines that were said, the newest first.
     ghost said: { Self → List (List ℕ) };
 
+    /// It has come to its end.
+    ghost is_over: { Self → Type 0 };
+
     /// The next line; none where nothing more is heard.
     fn hear(&mut self) -> Option<Heard>
         ensures heard { Hears result (heard self.old) (heard self.new) }
-        ensures said { said self.new ≡ said self.old };
+        ensures said { said self.new ≡ said self.old }
+        ensures over { IfNone result (is_over self.new) };
 
     /// How many lines were heard: the number of the newest.
     fn lines(&self) -> usize
