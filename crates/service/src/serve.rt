@@ -2,7 +2,7 @@ ghost use Rattle.std.specs.Prelude.{◌≡◌, ◌<◌, ℕ, List, IfNone, IfOk,
 ghost use Rattle.std.specs.Option.{option_map};
 ghost use Rattle.bookkeeping.specs.Standings.{book_of};
 ghost use Rattle.service.specs.Planning.{AllPromised, PlannedAs};
-ghost use Rattle.service.specs.Services.{AsksCall, InService, Keeps, Serves, Talk, rows_of};
+ghost use Rattle.service.specs.Services.{AsksCall, InService, Keeps, Serves, Turn, rows_of};
 
 use crate::operator::Operator;
 use bookkeeping::book::Open;
@@ -27,8 +27,7 @@ pub struct Served<A> {
 // The book that is made in the first state asked for that the plant has.
 fn make_book<P: Plant, O: Operator>(plant: &P, operator: &mut O) -> Option<Standing>
     ensures served { (ps : List ℕ) → Serves (P.model plant.now) ps
-        (record { asked = O.asked operator.old; told = O.told operator.old })
-        (record { asked = O.asked operator.new; told = O.told operator.new })
+        (O.turns operator.old) (O.turns operator.new)
         (option_map book_of result) }
     ensures shown { Keeps (O.was_shown operator.old) (O.was_shown operator.new) }
     ensures done { IfNone result (O.is_done operator.new) }
@@ -52,8 +51,8 @@ fn next_call<'a, O: Operator>(
     policy: &'a [u16],
     operator: &mut O,
 ) -> Option<Call<'a>>
-    ensures asked { AsksCall (book_of book.now) policy.now result (O.asked operator.old) (O.asked operator.new) }
-    ensures told { O.told operator.new ≡ O.told operator.old }
+    ensures asked { AsksCall (book_of book.now) policy.now result
+        (O.turns operator.old) (O.turns operator.new) }
     ensures shown { Keeps (O.was_shown operator.old) (O.was_shown operator.new) }
     ensures fewer { IfSome result (λ _. O.left operator.new < O.left operator.old) }
     ensures done { IfNone result (O.is_done operator.new) }
@@ -75,10 +74,9 @@ fn attend<P: Plant, O: Operator>(
     made: Standing,
     operator: &mut O,
 ) -> Standing
-    ensures served { (from : Talk) → InService (P.model plant.now) policy.now from
-        (record { asked = O.asked operator.old; told = O.told operator.old }) (book_of made)
-        → InService (P.model plant.now) policy.now from
-        (record { asked = O.asked operator.new; told = O.told operator.new }) (book_of result) }
+    ensures served { (from : List Turn)
+        → InService (P.model plant.now) policy.now from (O.turns operator.old) (book_of made)
+        → InService (P.model plant.now) policy.now from (O.turns operator.new) (book_of result) }
     ensures shown { Keeps (O.was_shown operator.old) (O.was_shown operator.new) }
     ensures done { O.is_done operator.new }
 {
@@ -96,8 +94,7 @@ fn attend<P: Plant, O: Operator>(
 // A book where one is asked for, after all calls that are.
 fn keep_book<P: Plant, O: Operator>(plant: &P, policy: &[u16], operator: &mut O) -> Option<Standing>
     ensures served { Serves (P.model plant.now) policy.now
-        (record { asked = O.asked operator.old; told = O.told operator.old })
-        (record { asked = O.asked operator.new; told = O.told operator.new })
+        (O.turns operator.old) (O.turns operator.new)
         (option_map book_of result) }
     ensures shown { Keeps (O.was_shown operator.old) (O.was_shown operator.new) }
     ensures done { O.is_done operator.new }
@@ -124,17 +121,15 @@ pub fn serve<P: Plant, T: Tariff, O: Operator>(
         (record { values = values.old; working = working.old; policy = policy.old })
         (record { values = values.new; working = working.new; policy = policy.new })
         result }
-    // without a plan nothing is asked or told
-    ensures not_planned { OnErr result ((O.asked operator.new ≡ O.asked operator.old)
-        × (O.told operator.new ≡ O.told operator.old)) }
+    // without a plan nothing passes between the two
+    ensures not_planned { OnErr result (O.turns operator.new ≡ O.turns operator.old) }
     // the finding was shown, and the service went on until the operator had nothing more to ask
     ensures shown { IfOk result (λ s. O.was_shown operator.new (rows_of T.Tariff.row s.finding)) }
     ensures done { IfOk result (λ _. O.is_done operator.new) }
     // the cost bound, the exactness of the claims, and the whole past of the book
     ensures promised { IfOk result (AllPromised T.Tariff.row (P.model plant.now) (T.scale tariff.now)
         (record { values = values.new; working = working.new; policy = policy.new })
-        (record { asked = O.asked operator.old; told = O.told operator.old })
-        (record { asked = O.asked operator.new; told = O.told operator.new })) }
+        (O.turns operator.old) (O.turns operator.new)) }
 {
     let claims = plan(plant, tariff, sweeps, values, working, policy)?;
     let finding = accept(plant, tariff, values, policy, claims).unwrap();

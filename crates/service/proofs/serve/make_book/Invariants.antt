@@ -3,9 +3,7 @@ use Rattle.service.proofs.serve.make_book.Given as goal
 
 abbrev pub invariant-loop-state : goal.invariant-loop-state
 invariant-loop-state g l = record {
-  none : NoneMade (g.P.Plant.model l.plant)
-      (record { asked = g.O.Operator.asked l.fn.operator; told = g.O.Operator.told l.fn.operator })
-      (record { asked = g.O.Operator.asked l.operator; told = g.O.Operator.told l.operator });
+  none : NoneMade (g.P.Plant.model l.plant) (g.O.Operator.turns l.fn.operator) (g.O.Operator.turns l.operator);
   shown : Keeps (g.O.Operator.was_shown l.fn.operator) (g.O.Operator.was_shown l.operator);
 }
 
