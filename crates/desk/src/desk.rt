@@ -1,4 +1,4 @@
-ghost use Rattle.std.specs.Prelude.{◌≡◌, ◌+◌, ◌^◌, ◌<◌, [], ◌∷◌, length, IfSome, IfOk};
+ghost use Rattle.std.specs.Prelude.{◌≡◌, ◌+◌, ◌^◌, ◌<◌, true, [], ◌∷◌, length, IfNone, IfSome, IfOk};
 ghost use Rattle.desk.specs.Asking.{Suits};
 ghost use Rattle.desk.specs.Histories.{newest};
 ghost use Rattle.desk.specs.Saying.{told_of};
@@ -45,7 +45,8 @@ impl<L: Terminal> Desk<L> {
         ensures suits { IfSome result (λ asked. IfOk asked (Suits due)) }
         ensures counted { IfSome result (λ _. length (L.heard self.new.terminal)
             ≡ length (L.heard self.old.terminal) + 1) }
-        ensures fits { IfSome result (λ _. length (L.heard self.new.terminal) < 2 ^ 64) }
+        ensures few { length (L.heard self.new.terminal) < 2 ^ 64 }
+        ensures ended { IfNone result (L.ended self.new.terminal ≡ true) }
     {
         let heard = self.terminal.hear()?;
         let line = self.terminal.lines();
@@ -63,6 +64,7 @@ impl<L: Terminal> Desk<L> {
         ensures asked { Asks result (newest asks_in self.old.talk.items) (newest asks_in self.new.talk.items) }
         ensures told { newest tells_in self.new.talk.items ≡ newest tells_in self.old.talk.items }
         ensures suits { IfSome result (Suits due) }
+        ensures ended { IfNone result (L.ended self.new.terminal ≡ true) }
     {
         loop {
             if let Ok(ask) = self.listen(due)? {

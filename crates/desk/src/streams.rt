@@ -1,4 +1,4 @@
-ghost use Rattle.std.specs.Prelude.{◌≡◌, length};
+ghost use Rattle.std.specs.Prelude.{◌≡◌, ◌+◌, ◌^◌, ◌<◌, length, IfSome};
 ghost use Rattle.desk.specs.Histories.{newest};
 ghost use Rattle.desk.specs.Streams.{kept, heard_line, said_line};
 
@@ -54,8 +54,8 @@ pub struct Streams<R, W> {
     writer: W,
     // how many lines were heard
     lines: usize,
-    // whether the writer took every line so far
-    takes: bool,
+    // whether nothing more is heard: the reader came to its end, or the writer did not take a line
+    ended: bool,
     // the lines that were heard and said, for proofs alone
     heard: Log<Heard, ()>,
     said: Log<LineText, ()>,
@@ -69,10 +69,21 @@ impl<R: Read, W: Write> Streams<R, W> {
             reader,
             writer,
             lines: 0,
-            takes: true,
+            ended: false,
             heard: Log::new(),
             said: Log::new(),
         }
+    }
+}
+
+impl<R, W> Streams<R, W> {
+    // The number of the line that is heard next; none where nothing more is heard.
+    fn next_number(&self) -> Option<usize>
+        ensures next { IfSome result (λ n. n ≡ self.now.lines + 1) }
+        ensures few { self.now.lines < 2 ^ 64 }
+    {
+        let next = self.lines.checked_add(1)?;
+        (!self.ended).then_some(next)
     }
 }
 
@@ -81,12 +92,17 @@ impl<R: Read, W: Write> Terminal for Streams<R, W> {
 
     ghost said = { λ s. newest said_line s.said.items };
 
+    ghost ended = { λ s. s.ended };
+
     fn hear(&mut self) -> Option<Heard> {
-        if !self.takes {
+        let Some(lines) = self.next_number() else {
+            self.ended = true;
             return None;
-        }
-        let lines = self.lines.checked_add(1)?;
-        let line = read_line(&mut self.reader)?;
+        };
+        let Some(line) = read_line(&mut self.reader) else {
+            self.ended = true;
+            return None;
+        };
         self.lines = lines;
         self.heard = self.heard.and(&line, &());
         Some(line)
@@ -97,7 +113,7 @@ impl<R: Read, W: Write> Terminal for Streams<R, W> {
     }
 
     fn say(&mut self, line: &LineText) {
-        self.takes &= write_now(&mut self.writer, line.as_slice());
+        self.ended |= !write_now(&mut self.writer, line.as_slice());
         self.said = self.said.and(line, &());
     }
 }
