@@ -1,22 +1,22 @@
 -- The lines of a request, one by one.
-use Rattle.std.proofs.Common.{◌≡◌, ℕ, false, List, [], ◌∷◌, ◌++◌, nat_eq, ap, ◌∙◌}
+use Rattle.std.proofs.Common.{◌≡◌, ℕ, Bool, true, false, List, [], ◌∷◌, ◌++◌, nat_eq, ap, ◌∙◌, inl, inr}
 use Rattle.std.specs.List.{starts_with}
-use Rattle.desk.specs.Requests.{last_key, NoneLast, NoneBefore, HeardText, HeardSoFar}
+use Rattle.desk.specs.Requests.{last_key, NoneLast, Ends, HeardText, HeardSoFar}
 
-none_before : (lines : List (List ℕ)) → NoneLast lines → NoneBefore lines
-none_before [] h = tt
-none_before (l ∷ ls) h = h.1
+none_more : (lines : List (List ℕ)) (ended : Bool) → NoneLast lines → ended ≡ true → Ends lines ended
+none_more [] ended h e = e
+none_more (l ∷ ls) ended h e = (h.1, inr e)
 
 -- no line more is heard
-pub ended : {old new : List (List ℕ)} {text : List ℕ} → HeardSoFar old new text → HeardText old new text
-ended h = record { lines = h.lines; heard = h.heard; none_before = none_before h.lines h.none_last; whole = h.whole }
+pub over : {old new new' : List (List ℕ)} {ended : Bool} {text : List ℕ} → HeardSoFar old new text → new' ≡ new → ended ≡ true → HeardText old new' ended text
+over {ended = ended} h same e = record { lines = h.lines; heard = same ∙ h.heard; ends = none_more h.lines ended h.none_last e; whole = h.whole }
 
 -- a line more is heard, and ends the request
-pub ended_by : {old new new' : List (List ℕ)} {text text' : List ℕ} (line : List ℕ) → HeardSoFar old new text → new' ≡ line ∷ new → text' ≡ text ++ line → HeardText old new' text'
-ended_by line h heard whole = record {
+pub ended_by : {old new new' : List (List ℕ)} {ended : Bool} {text text' : List ℕ} (line : List ℕ) → HeardSoFar old new text → new' ≡ line ∷ new → text' ≡ text ++ line → starts_with nat_eq line last_key ≡ true → HeardText old new' ended text'
+ended_by line h heard whole last = record {
   lines = line ∷ h.lines;
   heard = heard ∙ ap (λ ls. line ∷ ls) h.heard;
-  none_before = h.none_last;
+  ends = (h.none_last, inl last);
   whole = whole ∙ ap (λ t. t ++ line) h.whole;
 }
 

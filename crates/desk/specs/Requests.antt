@@ -1,5 +1,5 @@
 -- The lines of a request, as they are heard.
-use Rattle.std.specs.Prelude.{◌≡◌, ℕ, false, List, [], ◌∷◌, ◌++◌, ⊤, codes, nat_eq}
+use Rattle.std.specs.Prelude.{◌≡◌, ℕ, ◌⊎◌, Bool, true, false, List, [], ◌∷◌, ◌++◌, ⊤, codes, nat_eq}
 use Rattle.std.specs.List.{starts_with}
 
 -- How the line begins that ends a request.
@@ -16,19 +16,19 @@ abbrev pub NoneLast : List (List ℕ) → Type 0
 NoneLast [] = ⊤
 NoneLast (l ∷ ls) = (starts_with nat_eq l last_key ≡ false) × NoneLast ls
 
--- None of them does, unless it is the newest.
-abbrev pub NoneBefore : List (List ℕ) → Type 0
-NoneBefore [] = ⊤
-NoneBefore (l ∷ ls) = NoneLast ls
+-- The newest of some lines ends a request, and none before it; or nothing more is heard.
+abbrev pub Ends : List (List ℕ) → Bool → Type 0
+Ends [] ended = ended ≡ true
+Ends (l ∷ ls) ended = NoneLast ls × ((starts_with nat_eq l last_key ≡ true) ⊎ (ended ≡ true))
 
--- Some lines more were heard, the newest first; none before the newest ends a request, and this is their text.
-pub record HeardText (old new : List (List ℕ)) (text : List ℕ) : Type 0 where
+-- Some lines more were heard, the newest first, that end a request, and this is their text.
+pub record HeardText (old new : List (List ℕ)) (ended : Bool) (text : List ℕ) : Type 0 where
   pub lines : List (List ℕ)
   pub heard : new ≡ lines ++ old
-  pub none_before : NoneBefore lines
+  pub ends : Ends lines ended
   pub whole : text ≡ text_of lines
 
--- So far none ends it.
+-- So far none of them ends it.
 pub record HeardSoFar (old new : List (List ℕ)) (text : List ℕ) : Type 0 where
   pub lines : List (List ℕ)
   pub heard : new ≡ lines ++ old

@@ -1,4 +1,4 @@
-ghost use Rattle.std.specs.Prelude.{◌≡◌, ◌+◌, ◌-◌, ◌^◌, ◌<◌, [], ◌∷◌, ◌++◌, length, IfNone, IfSome, IfOk};
+ghost use Rattle.std.specs.Prelude.{◌≡◌, ◌+◌, ◌-◌, ◌^◌, ◌<◌, true, [], ◌∷◌, ◌++◌, length, IfNone, IfSome, IfOk};
 ghost use Rattle.desk.specs.Asking.{Suits};
 ghost use Rattle.desk.specs.Histories.{newest};
 ghost use Rattle.desk.specs.Saying.{told_of, lines_of};
@@ -45,8 +45,8 @@ impl<L: Terminal> Desk<L> {
         ensures suits { IfSome result (λ asked. IfOk asked (Suits due)) }
         ensures counted { IfSome result (λ _. length (L.heard self.new.terminal)
             ≡ length (L.heard self.old.terminal) + 1) }
-        ensures fits { IfSome result (λ _. length (L.heard self.new.terminal) < 2 ^ 64) }
-        ensures over { IfNone result (L.is_over self.new.terminal) }
+        ensures few { length (L.heard self.new.terminal) < 2 ^ 64 }
+        ensures ended { IfNone result (L.ended self.new.terminal ≡ true) }
         ensures shown { newest shows_in self.new.talk.items ≡ newest shows_in self.old.talk.items }
     {
         let heard = self.terminal.hear()?;
@@ -68,7 +68,7 @@ impl<L: Terminal> Desk<L> {
         ensures fewer { IfSome result (λ _. length (L.heard self.old.terminal)
             < length (L.heard self.new.terminal)) }
         ensures fits { IfSome result (λ _. length (L.heard self.new.terminal) < 2 ^ 64) }
-        ensures over { IfNone result (L.is_over self.new.terminal) }
+        ensures ended { IfNone result (L.ended self.new.terminal ≡ true) }
         ensures shown { newest shows_in self.new.talk.items ≡ newest shows_in self.old.talk.items }
     {
         loop {
@@ -113,7 +113,7 @@ impl<L: Terminal> Operator for Desk<L> {
 
     ghost left = { λ desk. 2 ^ 64 - length (L.heard desk.terminal) };
 
-    ghost is_done = { λ desk. L.is_over desk.terminal };
+    ghost is_done = { λ desk. L.ended desk.terminal ≡ true };
 
     fn found<T: Tariff>(&mut self, tariff: &T, finding: &Finding<T::Amount>) {
         self.show(FindingLines::of(tariff, finding));

@@ -9,14 +9,12 @@ const LAST_KEY: &[u8] = b"sweeps=";
 
 /// Hears the text of a request: all lines up to the first that names the sweeps, or to the end.
 pub fn hear_request<L: Terminal>(heap: Global, terminal: &mut L) -> Result<Vec<u8>, AllocError>
-    ensures text { IfOk result (λ text. HeardText (L.heard terminal.old) (L.heard terminal.new) text.items) }
+    ensures text { IfOk result (λ text. HeardText (L.heard terminal.old) (L.heard terminal.new)
+        (L.ended terminal.new) text.items) }
     ensures said { L.said terminal.new ≡ L.said terminal.old }
 {
     let mut text = Vec::new(heap);
-    for _ in 0..u64::MAX {
-        let Some(line) = terminal.hear() else {
-            break;
-        };
+    while let Some(line) = terminal.hear() {
         text.extend_from_slice(line.as_slice())?;
         if line.as_slice().starts_with(LAST_KEY) {
             break;

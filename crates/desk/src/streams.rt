@@ -1,4 +1,4 @@
-ghost use Rattle.std.specs.Prelude.{◌≡◌, ◌+◌, ◌<◌, ◌^◌, true, length, IfSome};
+ghost use Rattle.std.specs.Prelude.{◌≡◌, ◌+◌, ◌^◌, ◌<◌, length, IfSome};
 ghost use Rattle.desk.specs.Histories.{newest};
 ghost use Rattle.desk.specs.Streams.{kept, heard_line, said_line};
 
@@ -54,10 +54,8 @@ pub struct Streams<R, W> {
     writer: W,
     // how many lines were heard
     lines: usize,
-    // whether the writer took every line so far
-    takes: bool,
-    // whether no line was left when one was to be heard
-    over: bool,
+    // whether nothing more is heard: the reader came to its end, or the writer did not take a line
+    ended: bool,
     // the lines that were heard and said, for proofs alone
     heard: Log<Heard, ()>,
     said: Log<LineText, ()>,
@@ -71,24 +69,21 @@ impl<R: Read, W: Write> Streams<R, W> {
             reader,
             writer,
             lines: 0,
-            takes: true,
-            over: false,
+            ended: false,
             heard: Log::new(),
             said: Log::new(),
         }
     }
+}
 
-    // The next line, if the writer still takes lines and they can still be counted.
-    fn left_to_hear(&mut self) -> Option<Heard>
-        ensures heard { self.new.heard ≡ self.old.heard }
-        ensures said { self.new.said ≡ self.old.said }
-        ensures lines { self.new.lines ≡ self.old.lines }
-        ensures counted { IfSome result (λ _. self.old.lines + 1 < 2 ^ 64) }
+impl<R, W> Streams<R, W> {
+    // The number of the line that is heard next; none where nothing more is heard.
+    fn next_number(&self) -> Option<usize>
+        ensures next { IfSome result (λ n. n ≡ self.now.lines + 1) }
+        ensures few { self.now.lines < 2 ^ 64 }
     {
-        if !self.takes || self.lines == usize::MAX {
-            return None;
-        }
-        read_line(&mut self.reader)
+        let next = self.lines.checked_add(1)?;
+        (!self.ended).then_some(next)
     }
 }
 
@@ -97,14 +92,18 @@ impl<R: Read, W: Write> Terminal for Streams<R, W> {
 
     ghost said = { λ s. newest said_line s.said.items };
 
-    ghost is_over = { λ s. s.over ≡ true };
+    ghost ended = { λ s. s.ended };
 
     fn hear(&mut self) -> Option<Heard> {
-        let Some(line) = self.left_to_hear() else {
-            self.over = true;
+        let Some(lines) = self.next_number() else {
+            self.ended = true;
             return None;
         };
-        self.lines += 1;
+        let Some(line) = read_line(&mut self.reader) else {
+            self.ended = true;
+            return None;
+        };
+        self.lines = lines;
         self.heard = self.heard.and(&line, &());
         Some(line)
     }
@@ -114,7 +113,7 @@ impl<R: Read, W: Write> Terminal for Streams<R, W> {
     }
 
     fn say(&mut self, line: &LineText) {
-        self.takes &= write_now(&mut self.writer, line.as_slice());
+        self.ended |= !write_now(&mut self.writer, line.as_slice());
         self.said = self.said.and(line, &());
     }
 }

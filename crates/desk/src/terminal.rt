@@ -1,4 +1,4 @@
-ghost use Rattle.std.specs.Prelude.{◌≡◌, ℕ, List, ◌∷◌, length, IfNone};
+ghost use Rattle.std.specs.Prelude.{◌≡◌, ℕ, ◌^◌, ◌<◌, Bool, true, List, ◌∷◌, length, IfNone};
 ghost use Rattle.desk.specs.Terminals.{Hears};
 
 use arrayvec::ArrayVec;
@@ -18,14 +18,15 @@ pub trait Terminal {
     /// The lines that were said, the newest first.
     ghost said: { Self → List (List ℕ) };
 
-    /// It has come to its end.
-    ghost is_over: { Self → Type 0 };
+    /// Whether nothing more is heard.
+    ghost ended: { Self → Bool };
 
     /// The next line; none where nothing more is heard.
     fn hear(&mut self) -> Option<Heard>
         ensures heard { Hears result (heard self.old) (heard self.new) }
-        ensures said { said self.new ≡ said self.old }
-        ensures over { IfNone result (is_over self.new) };
+        ensures ended { IfNone result (ended self.new ≡ true) }
+        ensures few { length (heard self.new) < 2 ^ 64 }
+        ensures said { said self.new ≡ said self.old };
 
     /// How many lines were heard: the number of the newest.
     fn lines(&self) -> usize

@@ -31,7 +31,7 @@ returns-in_ok-chain-in-Chain g c =
     c.follow_behind.result
     (λ r h. subst (λ q. AtKind text q r) named (reads r h))
     requested
-    (λ desk h. chain_followed desk.talk.items text start.result.rest.now rest start.ensures.rest chain e.law h)
+    (λ desk h. (chain_followed desk.talk.items text start.result.rest.now rest start.ensures.rest chain e.law h.0, h.1))
     c.follow_behind.ensures
 
 pub returns-in_err-pair-in-Pair : goal.returns-in_err-pair-in-Pair
@@ -59,5 +59,5 @@ returns-in_ok-pair-in-Pair g c =
     c.follow_behind-in-Pair.result
     (λ r h. subst (λ q. AtKind text q r) named (reads r h))
     requested
-    (λ desk h. pair_followed desk.talk.items text start.result.rest.now rest start.ensures.rest pair e.law h)
+    (λ desk h. (pair_followed desk.talk.items text start.result.rest.now rest start.ensures.rest pair e.law h.0, h.1))
     c.follow_behind-in-Pair.ensures

@@ -1,17 +1,14 @@
-use Rattle.std.proofs.Common.{◌≡◌, ◌+◌, ◌∷◌, ◌∙◌, ap, length, arith}
-use Rattle.desk.specs.Histories.{newest}
+use Rattle.std.proofs.Common.{◌≡◌, ◌+◌, ap, length, rules, arith}
 use Rattle.desk.specs.Streams.{heard_line}
 use Rattle.desk.proofs.HistoryLaws.{entered}
 use Rattle.desk.proofs.streams.StreamsTerminal.hear.Goals as goal
 
 pub invariant_of-self-2 : goal.invariant_of-self-2
 invariant_of-self-2 g c =
-    let old = c.left_to_hear.new.self in
-    let more = ap length (entered heard_line old.heard.items c.and-self.result.items c.in-Some.line c.and-self.ensures) in
+    let old = c.args.self.now in
+    let more = ap length (entered heard_line old.heard.items c.and-self.result.items c.in-Some-read_line.line c.and-self.ensures) in
+    let counts : c.in-Some.lines ≡ old.lines + 1 = search rules in
     record { counted = omega (arith, old.counted) }
 
 pub returns-clause-heard : goal.returns-clause-heard
-returns-clause-heard g c =
-    let line = c.in-Some.line in
-    entered heard_line c.left_to_hear.new.self.heard.items c.and-self.result.items line c.and-self.ensures
-    ∙ ap (λ h. line.items ∷ newest heard_line h.items) c.in-Some.ensures.heard
+returns-clause-heard g c = entered heard_line c.args.self.now.heard.items c.and-self.result.items c.in-Some-read_line.line c.and-self.ensures
