@@ -167,18 +167,6 @@ pub record Kept (first : ℕ) (es : List Event) (b : Book) : Type 0 where
 abbrev pub GoesOn : ℕ → List Event → Book → Type 0
 GoesOn first es b = Past first es b × Kept first es b
 
--- Some past accounts for a book.
-abbrev pub IsAccountedFor : Book → Type 0
-IsAccountedFor b = ∥ ((first : ℕ) × (es : List Event) × GoesOn first es b) ∥₁
-
 -- Whatever past led to a book goes on, by an event, to another.
 abbrev pub Continues : Book → Event → Book → Type 0
 Continues b e c = (first : ℕ) (es : List Event) → Past first es b → GoesOn first (e ∷ es) c
-
--- Some plant allowed an order in the state in which its book stands, at the bill that it has.
-abbrev pub WasAllowed : Order → Type 0
-WasAllowed o =
-    ∥ ((m : Model)
-    × Lawful m
-    × (m.feasible o.account.state o.portfolio ≡ true)
-    × (m.bill o.account.state o.portfolio ≡ o.bill)) ∥₁
