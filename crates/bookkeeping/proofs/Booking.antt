@@ -59,9 +59,6 @@ order_refused m a ps x entry none =
     infeasible entry.room entry.state entry.policy (ap (λ y. m.feasible a.state y) (sym entry.entry) ∙ bill_absent m a.state x none)
 
 -- a book keeps its bounds
-pub bounded_make : (s : ℕ) → Bounded (fresh s)
-bounded_make s = record { windows = omega arith; seconds = omega arith; cents = omega arith }
-
 due_issue : (m : Model) (a : Account) (ps : List ℕ) → Lawful m → Bounded a → MayIssue m a ps → Due (ordered m a ps)
 due_issue m a ps lawful bounded may = record { bounded = bounded; room = may.room; bill = lawful.billed a.state (named ps a.state) may.feasible }
 
