@@ -1,18 +1,17 @@
 -- What each call needs to be known of the book that it makes.
-use Rattle.std.proofs.Common.{◌≡◌, ℕ, ◌+◌, ◌<◌, ◌≤◌, true, false, Bool, cond, List, [], ◌∷◌, length, get_or, Some, None, ◌⊎◌, inl, inr, sym, refl, ap, ◌∙◌, subst, arith}
+use Rattle.std.proofs.Common.{◌≡◌, ℕ, ◌+◌, ◌<◌, ◌≤◌, true, false, Bool, cond, List, length, get_or, Some, None, ◌⊎◌, inl, inr, sym, refl, ap, ◌∙◌, subst, arith}
 use Rattle.std.specs.List.{slice_get}
 use Rattle.std.proofs.lemmas.Option.{slice_get_cases}
 use Rattle.interface.specs.declared.plant.Bill.{Bill}
 use Rattle.interface.specs.declared.plant.Outcome.{Outcome}
-use Rattle.interface.specs.Limits.{most_windows}
-use Rattle.interface.specs.Plants.{Model, Lawful, LawfulBill, named, bill_of, outcomes_of}
+use Rattle.interface.specs.Plants.{Model, Lawful, named, bill_of, outcomes_of}
 use Rattle.bookkeeping.specs.declared.stage.Stage.TheVariants.{Open, Issued, OnAir}
-use Rattle.bookkeeping.specs.Books.{Account, Order, Airing, Book, opened, issued, on_air, fresh, airing, aired, moved, Bounded, Due}
+use Rattle.bookkeeping.specs.Books.{Account, Order, Airing, Book, opened, issued, on_air, airing, aired, moved, Bounded, Due}
 use Rattle.bookkeeping.specs.Calls.{MayIssue, ordered, IssueRefused, infeasible, MayReport, Reported, ReportRefused, no_outcome}
 use Rattle.bookkeeping.specs.Entries.{EntryOf}
 use Rattle.bookkeeping.specs.Log.{issue, carry_out, report, goes_on, refused}
 use Rattle.bookkeeping.specs.LookingBack.{Continues, GoesOn}
-use Rattle.bookkeeping.specs.Pasts.{Event, Past, made, was_issued, issue_was_refused, was_carried_out, was_reported, report_was_refused}
+use Rattle.bookkeeping.specs.Pasts.{Event, Past, was_issued, issue_was_refused, was_carried_out, was_reported, report_was_refused}
 use Rattle.bookkeeping.proofs.Keeping.{kept}
 use Rattle.bookkeeping.proofs.Replies.{reported_may}
 

@@ -1,5 +1,5 @@
 -- What is kept of every past, by induction on it.
-use Rattle.std.proofs.Common.{◌≡◌, ℕ, zero, suc, ◌+◌, ◌<◌, ◌≤◌, ◌↔◌, true, cond, List, [], ◌∷◌, Option, Some, None, sym, refl, ap, ◌∙◌, subst, arith}
+use Rattle.std.proofs.Common.{◌≡◌, ℕ, zero, suc, ◌+◌, ◌<◌, ◌≤◌, ◌↔◌, true, cond, List, [], ◌∷◌, Option, Some, sym, refl, ap, ◌∙◌, subst, arith}
 use Rattle.std.specs.List.{filter, count_by, slice_get}
 use Rattle.std.specs.Option.{IfSome}
 use Rattle.std.proofs.lemmas.List.Sums.{sum_by-cons}
@@ -153,7 +153,10 @@ looks first es b (was_issued {es = earlier} {a = a} m ps before lawful may) =
     record {
       held = (
         record {
-          plant = m; policy = ps; last = refl; entry = refl;
+          plant = m;
+          policy = ps;
+          last = refl;
+          entry = refl;
           allowed = record { lawful = lawful; feasible = may.feasible };
           noted = ap (λ z. z.held) goes ∙ ap (λ z. (after_reply z (issue m ps) (Some (goes_on Issued))).held) free.is;
         },

@@ -4,7 +4,7 @@ use Rattle.std.specs.Prelude.{◌≡◌, ◌≢◌, ℕ, ◌+◌, ◌<◌, ◌�
 use Rattle.interface.specs.declared.plant.Outcome.{Outcome}
 use Rattle.interface.specs.Limits.{most_windows}
 use Rattle.interface.specs.Plants.{Model, Lawful, named, outcomes_of}
-use Rattle.bookkeeping.specs.Books.{Order, Book, opened, issued, on_air, account_of}
+use Rattle.bookkeeping.specs.Books.{Book, opened, issued, on_air, account_of}
 use Rattle.bookkeeping.specs.Log.{Note, Call, issue, carry_out, report, Reply, goes_on, refused, Agrees}
 use Rattle.bookkeeping.specs.Pasts.{Event, Past, log_of, EachAnswered}
 

@@ -1,6 +1,5 @@
 -- What an accepted certificate promises of the cost of every book that follows it.
-use Rattle.std.specs.Prelude.{◌≡◌, ℕ, suc, ◌+◌, ◌-◌, ◌^◌, ◌<◌, ◌≤◌, List, [], ◌∷◌, length, Contains}
-use Rattle.interface.specs.declared.plant.Bill.{Bill}
+use Rattle.std.specs.Prelude.{◌≡◌, ℕ, suc, ◌+◌, ◌^◌, ◌<◌, ◌≤◌, List, [], ◌∷◌, length, Contains}
 use Rattle.interface.specs.Limits.{whole, most_windows}
 use Rattle.interface.specs.Plants.{Model, named}
 use Rattle.interface.specs.Rows.{Row, plus, minus, times}

@@ -1,7 +1,6 @@
 use Rattle.std.proofs.Common.{◌≡◌, ℕ, true, false, Some, None, ◌↔◌, ap, sym, refl, subst, arith, rules}
 use Rattle.std.specs.List.{slice_get}
 use Rattle.interface.specs.Plants.{outcomes_of}
-use Rattle.bookkeeping.specs.Books.{on_air}
 use Rattle.bookkeeping.specs.Calls.{ReportRefused, not_allowed}
 use Rattle.bookkeeping.proofs.Booking.{outcome_absent, outcome_book, no_report_goes_on}
 use Rattle.bookkeeping.proofs.Replies.{report_exactly, report_not_both}

@@ -1,6 +1,6 @@
 use Rattle.std.proofs.Common.{◌≡◌, ℕ, List, Some, None, ap, sym, subst, rules}
 use Rattle.interface.specs.Plants.{Model, bill_of}
-use Rattle.bookkeeping.specs.Books.{Account, opened}
+use Rattle.bookkeeping.specs.Books.{Account}
 use Rattle.bookkeeping.specs.Calls.{IssueRefused}
 use Rattle.bookkeeping.specs.Entries.{EntryOf}
 use Rattle.bookkeeping.specs.Refusals.{number_of, place_of}
