@@ -1,42 +1,23 @@
 -- What each call needs to be known of the book that it makes.
-use Rattle.std.proofs.Common.{◌≡◌, ℕ, ◌+◌, ◌<◌, ◌≤◌, true, false, Bool, cond, List, [], ◌∷◌, length, get_or, Some, None, ◌⊎◌, inl, inr, sym, refl, ap, ◌∙◌, subst, arith}
-use Rattle.std.proofs.Math.Logic.{∥∥₁_map, ∥∥₁_elim}
+use Rattle.std.proofs.Common.{◌≡◌, ℕ, ◌+◌, ◌<◌, ◌≤◌, true, false, Bool, cond, List, length, get_or, Some, None, ◌⊎◌, inl, inr, sym, refl, ap, ◌∙◌, subst, arith}
 use Rattle.std.specs.List.{slice_get}
-use Rattle.std.specs.Coded.{le_prop}
 use Rattle.std.proofs.lemmas.Option.{slice_get_cases}
 use Rattle.interface.specs.declared.plant.Bill.{Bill}
 use Rattle.interface.specs.declared.plant.Outcome.{Outcome}
-use Rattle.interface.specs.Limits.{most_windows}
-use Rattle.interface.specs.Plants.{Model, Lawful, LawfulBill, named, bill_of, outcomes_of}
+use Rattle.interface.specs.Plants.{Model, Lawful, named, bill_of, outcomes_of}
 use Rattle.bookkeeping.specs.declared.stage.Stage.TheVariants.{Open, Issued, OnAir}
-use Rattle.bookkeeping.specs.Books.{Account, Order, Airing, Book, opened, issued, on_air, fresh, airing, aired, moved, Bounded}
+use Rattle.bookkeeping.specs.Books.{Account, Order, Airing, Book, opened, issued, on_air, airing, aired, moved, Bounded, Due}
 use Rattle.bookkeeping.specs.Calls.{MayIssue, ordered, IssueRefused, infeasible, MayReport, Reported, ReportRefused, no_outcome}
 use Rattle.bookkeeping.specs.Entries.{EntryOf}
 use Rattle.bookkeeping.specs.Log.{issue, carry_out, report, goes_on, refused}
-use Rattle.bookkeeping.specs.LookingBack.{Continues, GoesOn, IsAccountedFor, WasAllowed}
-use Rattle.bookkeeping.specs.Pasts.{Event, Past, Lasting, made, was_issued, issue_was_refused, was_carried_out, was_reported, report_was_refused}
+use Rattle.bookkeeping.specs.LookingBack.{Continues, GoesOn}
+use Rattle.bookkeeping.specs.Pasts.{Event, Past, was_issued, issue_was_refused, was_carried_out, was_reported, report_was_refused}
 use Rattle.bookkeeping.proofs.Keeping.{kept}
 use Rattle.bookkeeping.proofs.Replies.{reported_may}
 
 -- a past is kept
 pub goes_on_so : (first : ℕ) (es : List Event) (b : Book) → Past first es b → GoesOn first es b
 goes_on_so first es b past = (past, kept first es b past)
-
--- a book of some past is accounted for
-pub accounted : (b : Book) → Lasting b → IsAccountedFor b
-accounted b lasting = ∥∥₁_map lasting.past (λ p. (p.0, p.1, goes_on_so p.0 p.1 b p.2))
-
--- an order of some past was allowed by some plant
-allowed_past : (first : ℕ) (es : List Event) (o : Order) → Past first es (issued o)
-    → (m : Model) × Lawful m × (m.feasible o.account.state o.portfolio ≡ true) × (m.bill o.account.state o.portfolio ≡ o.bill)
-allowed_past first es o (was_issued m ps before lawful may) = (m, lawful, may.feasible, refl)
-
-pub was_allowed : (o : Order) → Lasting (issued o) → WasAllowed o
-was_allowed o lasting = ∥∥₁_map lasting.past (λ p. allowed_past p.0 p.1 o p.2)
-
--- it has a window left, and a lawful bill
-due : (first : ℕ) (es : List Event) (o : Order) → Past first es (issued o) → (o.account.windows < most_windows) × LawfulBill o.bill
-due first es o (was_issued {a = a} m ps before lawful may) = (may.room, lawful.billed a.state (named ps a.state) may.feasible)
 
 -- a bill that is there
 bill_there : (m : Model) (s x : ℕ) (b : Bill) → bill_of m s x ≡ Some b → (m.feasible s x ≡ true) × (m.bill s x ≡ b)
@@ -76,34 +57,20 @@ pub order_refused : (m : Model) (a : Account) (ps : List ℕ) (x : ℕ) → Entr
 order_refused m a ps x entry none =
     infeasible entry.room entry.state entry.policy (ap (λ y. m.feasible a.state y) (sym entry.entry) ∙ bill_absent m a.state x none)
 
--- a book lasts
-pub lasting_make : (m : Model) (s : ℕ) → Lawful m → s < m.states → Lasting (opened (fresh s))
-lasting_make m s lawful inside = record {
-  bounded = record { windows = omega arith; seconds = omega arith; cents = omega arith };
-  past = ∣ (s, [], made m lawful inside) ∣₁;
+-- a book keeps its bounds
+due_issue : (m : Model) (a : Account) (ps : List ℕ) → Lawful m → Bounded a → MayIssue m a ps → Due (ordered m a ps)
+due_issue m a ps lawful bounded may = record { bounded = bounded; room = may.room; bill = lawful.billed a.state (named ps a.state) may.feasible }
+
+bounded_carry_out : (o : Order) → Due o → Bounded (aired o).account
+bounded_carry_out o due = record {
+  windows = omega (arith, due.room);
+  seconds = omega (arith, due.bounded.seconds, due.bill.dark);
+  cents = omega (arith, due.bounded.cents, due.bill.paid);
 }
 
-lasting_issue : (m : Model) (a : Account) (ps : List ℕ) → Lawful m → Lasting (opened a) → MayIssue m a ps → Lasting (issued (ordered m a ps))
-lasting_issue m a ps lawful lasting may = record {
-  bounded = record { windows = lasting.bounded.windows; seconds = lasting.bounded.seconds; cents = lasting.bounded.cents };
-  past = ∥∥₁_map lasting.past (λ p. (p.0, record { call = issue m ps; reply = goes_on Issued } ∷ p.1, was_issued m ps p.2 lawful may));
-}
-
-lasting_carry_out : (o : Order) → Lasting (issued o) → Lasting (on_air (aired o))
-lasting_carry_out o lasting = record {
-  bounded = record {
-    windows = ∥∥₁_elim lasting.past le_prop (λ p. let d = due p.0 p.1 o p.2 in omega arith);
-    seconds = ∥∥₁_elim lasting.past le_prop (λ p. let d = due p.0 p.1 o p.2 in omega (arith, lasting.bounded.seconds, d.1.dark));
-    cents = ∥∥₁_elim lasting.past le_prop (λ p. let d = due p.0 p.1 o p.2 in omega (arith, lasting.bounded.cents, d.1.paid));
-  };
-  past = ∥∥₁_map lasting.past (λ p. (p.0, record { call = carry_out; reply = goes_on OnAir } ∷ p.1, was_carried_out p.2));
-}
-
-lasting_report : (m : Model) (w : Airing) (k : ℕ) (a : Account) → Lawful m → Lasting (on_air w) → Reported m w k a → Lasting (opened a)
-lasting_report m w k a lawful lasting told = record {
-  bounded = subst Bounded (sym told.moves) (record { windows = lasting.bounded.windows; seconds = lasting.bounded.seconds; cents = lasting.bounded.cents });
-  past = ∥∥₁_map lasting.past (λ p. (p.0, record { call = report m k; reply = goes_on Open } ∷ p.1, was_reported m k a p.2 lawful told));
-}
+bounded_report : (m : Model) (w : Airing) (k : ℕ) (a : Account) → Bounded w.account → Reported m w k a → Bounded a
+bounded_report m w k a bounded told =
+    subst Bounded (sym told.moves) (record { windows = bounded.windows; seconds = bounded.seconds; cents = bounded.cents })
 
 -- and whatever past led to it goes on
 issue_goes_on : (m : Model) (a : Account) (ps : List ℕ) → Lawful m → MayIssue m a ps
@@ -143,46 +110,46 @@ outcome_absent m w k may none = no_outcome may (by_cases (slice_get_cases (outco
 
 -- what is owed of an order that is made of an account
 pub record OrderMade (m : Model) (a : Account) (ps : List ℕ) (o : Order) : Type 0 where
-  pub lasting : Lasting (issued o)
+  pub due : Due o
   pub goes_on : Continues (opened a) (record { call = issue m ps; reply = goes_on Issued }) (issued o)
 
-pub order_book : (m : Model) (a v : Account) (ps : List ℕ) (x : ℕ) (b : Bill) → Lawful m → v ≡ a → Lasting (opened v) → EntryOf m a ps x
+pub order_book : (m : Model) (a v : Account) (ps : List ℕ) (x : ℕ) (b : Bill) → Lawful m → v ≡ a → Bounded v → EntryOf m a ps x
     → bill_of m a.state x ≡ Some b → OrderMade m a ps (record { account = v; portfolio = x; bill = b })
-order_book m a v ps x b lawful same lasting entry there =
+order_book m a v ps x b lawful same bounded entry there =
     let made = order_made m a ps x b entry there in
     let value = made.1 ∙ ap (λ z. record { account = z; portfolio = x; bill = b }) (sym same) in
     subst (OrderMade m a ps) value (record {
-      lasting = lasting_issue m a ps lawful (subst (λ z. Lasting (opened z)) same lasting) made.0;
+      due = due_issue m a ps lawful (subst Bounded same bounded) made.0;
       goes_on = issue_goes_on m a ps lawful made.0;
     })
 
 -- what is owed of a window that is carried out
 pub record CarriedOut (o : Order) (w : Airing) : Type 0 where
-  pub lasting : Lasting (on_air w)
+  pub bounded : Bounded w.account
   pub goes_on : Continues (issued o) (record { call = carry_out; reply = goes_on OnAir }) (on_air w)
 
-pub carry_out_book : (o v : Order) (t c : ℕ) → v ≡ o → t ≡ v.bill.seconds → c ≡ v.bill.cents → Lasting (issued v)
+pub carry_out_book : (o v : Order) (t c : ℕ) → v ≡ o → t ≡ v.bill.seconds → c ≡ v.bill.cents → Due v
     → CarriedOut o (airing v.account.state (v.account.windows + 1) (v.account.seconds + t) (v.account.cents + c) v.portfolio)
-carry_out_book o v t c same seconds cents lasting =
+carry_out_book o v t c same seconds cents due =
     let value = ap (λ z. airing v.account.state (v.account.windows + 1) (v.account.seconds + z) (v.account.cents + c) v.portfolio) seconds
     ∙ ap (λ z. airing v.account.state (v.account.windows + 1) (v.account.seconds + v.bill.seconds) (v.account.cents + z) v.portfolio) cents
     ∙ ap aired same in
-    subst (CarriedOut o) (sym value) (record { lasting = lasting_carry_out o (subst (λ z. Lasting (issued z)) same lasting); goes_on = carry_out_goes_on o })
+    subst (CarriedOut o) (sym value) (record { bounded = bounded_carry_out o (subst Due same due); goes_on = carry_out_goes_on o })
 
 -- what is owed of an outcome that is reported
 pub record OutcomeMade (m : Model) (w : Airing) (k : ℕ) (a : Account) : Type 0 where
   pub told : Reported m w k a
   pub may : MayReport m w k
-  pub lasting : Lasting (opened a)
+  pub bounded : Bounded a
   pub goes_on : Continues (on_air w) (record { call = report m k; reply = goes_on Open }) (opened a)
 
-pub outcome_book : (m : Model) (w v : Airing) (k : ℕ) (o : Outcome) → Lawful m → v ≡ w → Lasting (on_air v)
+pub outcome_book : (m : Model) (w v : Airing) (k : ℕ) (o : Outcome) → Lawful m → v ≡ w → Bounded v.account
     → slice_get (outcomes_of m w.account.state w.portfolio) k ≡ Some o → OutcomeMade m w k (moved v.account o.next)
-outcome_book m w v k o lawful same lasting there =
+outcome_book m w v k o lawful same bounded there =
     let told = outcome_told m w k o there in
     subst (λ z. OutcomeMade m w k (moved z.account o.next)) (sym same) (record {
       told = told;
       may = reported_may m w k (moved w.account o.next) told;
-      lasting = lasting_report m w k (moved w.account o.next) lawful (subst (λ z. Lasting (on_air z)) same lasting) told;
+      bounded = bounded_report m w k (moved w.account o.next) (subst (λ z. Bounded z.account) same bounded) told;
       goes_on = report_goes_on m w k (moved w.account o.next) lawful told;
     })

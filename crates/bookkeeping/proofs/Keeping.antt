@@ -1,17 +1,17 @@
 -- What is kept of every past, by induction on it.
-use Rattle.std.proofs.Common.{◌≡◌, ℕ, zero, suc, ◌+◌, ◌<◌, ◌≤◌, ◌↔◌, true, cond, List, [], ◌∷◌, Some, sym, refl, ap, ◌∙◌, subst, arith}
+use Rattle.std.proofs.Common.{◌≡◌, ℕ, zero, suc, ◌+◌, ◌<◌, ◌≤◌, ◌↔◌, true, cond, List, [], ◌∷◌, Option, Some, sym, refl, ap, ◌∙◌, subst, arith}
 use Rattle.std.specs.List.{filter, count_by, slice_get}
 use Rattle.std.specs.Option.{IfSome}
 use Rattle.std.proofs.lemmas.List.Sums.{sum_by-cons}
 use Rattle.interface.specs.Limits.{most_windows}
 use Rattle.std.specs.Bool.{⊤}
-use Rattle.interface.specs.Plants.{Model, Lawful, Inside, named}
+use Rattle.interface.specs.Plants.{Model, Lawful, Inside, named, outcomes_of}
 use Rattle.interface.specs.declared.plant.Outcome.{Outcome}
 use Rattle.bookkeeping.specs.declared.stage.Stage.TheVariants.{Open, Issued, OnAir}
 use Rattle.bookkeeping.specs.Books.{Account, Order, Airing, Book, opened, issued, on_air, account_of, aired}
 use Rattle.bookkeeping.specs.Calls.{MayIssue, ordered, Reported, IssueRefused, full, no_state, wrong_length, infeasible, ReportRefused, not_allowed, no_outcome}
-use Rattle.bookkeeping.specs.Log.{Log, Call, issue, carry_out, report, Reply, goes_on, refused, reply, after, after_reply, Agrees}
-use Rattle.bookkeeping.specs.LookingBack.{is_accepted, is_order, is_carry_out, is_report, windows_of, TakesTurns, last_order, IsNamed, HoldsNamed, Ending, endings_of, AccountFor, FullExactly, IsBeside, AllBeside, EachOf, EachEndedBeside, NoneUnknown, Kept}
+use Rattle.bookkeeping.specs.Log.{Note, Log, Call, issue, carry_out, report, Reply, goes_on, refused, reply, after, after_reply, Agrees}
+use Rattle.bookkeeping.specs.LookingBack.{is_accepted, is_order, is_carry_out, is_report, windows_of, TakesTurns, last_order, IsHeld, Holds, state_in, windows_in, Ending, endings_of, AccountFor, FullExactly, IsBeside, AllBeside, EachOf, EachEndedBeside, NoneUnknown, Kept}
 use Rattle.bookkeeping.specs.Pasts.{Event, Past, made, was_issued, issue_was_refused, was_carried_out, was_reported, report_was_refused, log_of, EachAnswered}
 use Rattle.bookkeeping.proofs.Replies.{reported_may}
 use Rattle.bookkeeping.proofs.Mirrors.{Mirrors, Out, issue_done, issue_not_done, carried_out, reported, not_reported}
@@ -133,20 +133,88 @@ full_exactly first es b (was_reported {es = earlier} {w = w} m k a before lawful
 full_exactly first es b (report_was_refused {es = earlier} {w = w} m k n p before lawful why) =
     ((λ asked. let z : ◌≡◌ {A = ℕ} 0 1 = cc in absurd (omega arith)), full_exactly first earlier (on_air w) before)
 
--- what is held was named by the newest order
-names_more : (es : List Event) (e : Event) (s x : ℕ) → last_order (e ∷ es) ≡ last_order es → IsNamed es s x → IsNamed (e ∷ es) s x
-names_more es e s x same is = record { plant = is.plant; policy = is.policy; last = same ∙ is.last; entry = is.entry }
+-- what is held goes on to be held, and the windows of the events are the log's
+record Looks (first : ℕ) (es : List Event) (b : Book) : Type 0 where
+  held : Holds es (log_of first es).held b
+  noted : windows_in first es ≡ (log_of first es).notes
+  stands : state_in first es ≡ (account_of b).state
 
-held_named : (first : ℕ) (es : List Event) (b : Book) → Past first es b → HoldsNamed es b
-held_named first es b (made m lawful inside) = tt
-held_named first es b (was_issued {es = earlier} {a = a} m ps before lawful may) =
-    record { plant = m; policy = ps; last = refl; entry = refl }
-held_named first es b (issue_was_refused {es = earlier} {a = a} m ps n p before lawful why) = tt
-held_named first es b (was_carried_out {es = earlier} {o = o} before) =
-    names_more earlier _ o.account.state o.portfolio refl (held_named first earlier (issued o) before)
-held_named first es b (was_reported {es = earlier} {w = w} m k a before lawful told) = tt
-held_named first es b (report_was_refused {es = earlier} {w = w} m k n p before lawful why) =
-    names_more earlier _ w.account.state w.portfolio refl (held_named first earlier (on_air w) before)
+still_held : (es : List Event) (e : Event) (h g : Option Note) (s x : ℕ) → last_order (e ∷ es) ≡ last_order es → g ≡ h → IsHeld es h s x → IsHeld (e ∷ es) g s x
+still_held es e h g s x same log is =
+    record { plant = is.plant; policy = is.policy; last = same ∙ is.last; entry = is.entry; allowed = is.allowed; noted = log ∙ is.noted }
+
+looks : (first : ℕ) (es : List Event) (b : Book) → Past first es b → Looks first es b
+looks first es b (made m lawful inside) = record { held = refl; noted = refl; stands = refl }
+looks first es b (was_issued {es = earlier} {a = a} m ps before lawful may) =
+    let so_far = looks first earlier (opened a) before in
+    let free = (mirrored first earlier (opened a) before).1 in
+    let step = issue_done first (log_of first earlier) (endings_of earlier) a m ps free lawful may in
+    let goes = ap (λ z. after_reply (log_of first earlier) (issue m ps) z) step.answered in
+    record {
+      held = (
+        record {
+          plant = m;
+          policy = ps;
+          last = refl;
+          entry = refl;
+          allowed = record { lawful = lawful; feasible = may.feasible };
+          noted = ap (λ z. z.held) goes ∙ ap (λ z. (after_reply z (issue m ps) (Some (goes_on Issued))).held) free.is;
+        },
+        refl,
+      );
+      noted = so_far.noted ∙ sym (ap (λ z. z.notes) goes);
+      stands = so_far.stands;
+    }
+looks first es b (issue_was_refused {es = earlier} {a = a} m ps n p before lawful why) =
+    let so_far = looks first earlier (opened a) before in
+    let step = issue_not_done first (log_of first earlier) (endings_of earlier) a m ps n p (mirrored first earlier (opened a) before).1 why in
+    let stays = ap (λ z. after_reply (log_of first earlier) (issue m ps) z) step.answered in
+    record { held = ap (λ z. z.held) stays ∙ so_far.held; noted = so_far.noted ∙ sym (ap (λ z. z.notes) stays); stands = so_far.stands }
+looks first es b (was_carried_out {es = earlier} {o = o} before) =
+    let so_far = looks first earlier (issued o) before in
+    let out = (mirrored first earlier (issued o) before).1 in
+    let h = so_far.held.0 in
+    let goes = ap (λ z. after z carry_out) out.is in
+    let same : Some out.window ≡ (log_of first earlier).held = sym (ap (λ z. z.held) out.is) in
+    record {
+      held = still_held earlier _ (log_of first earlier).held _ o.account.state o.portfolio refl (ap (λ z. z.held) goes ∙ same) h;
+      noted = window_more first earlier o.account.state o.portfolio h.plant h.policy (log_of first earlier).notes h.last h.entry so_far.stands so_far.noted
+          ∙ notes_more (same ∙ h.noted) (sym (ap (λ z. z.notes) out.is)) ∙ sym (ap (λ z. z.notes) goes);
+      stands = so_far.stands;
+    }
+  where
+    window_more : (first : ℕ) (es : List Event) (s x : ℕ) (m : Model) (ps : List ℕ) (ws : List Note) → last_order es ≡ Some (m, ps) → x ≡ named ps s
+        → state_in first es ≡ s → windows_in first es ≡ ws
+        → windows_in first (record { call = carry_out; reply = goes_on OnAir } ∷ es) ≡ record { plant = m; state = s; portfolio = x } ∷ ws
+    window_more first es s x m ps ws last entry stands noted = rw (last, stands, noted, entry) refl
+
+    notes_more : {v w : Note} {vs ws : List Note} → Some v ≡ Some w → vs ≡ ws → w ∷ ws ≡ v ∷ vs
+    notes_more same all = cc
+looks first es b (was_reported {es = earlier} {w = w} m k a before lawful told) =
+    let so_far = looks first earlier (on_air w) before in
+    let step = reported first (log_of first earlier) (endings_of earlier) w m k a (mirrored first earlier (on_air w) before).1 lawful told in
+    let goes = ap (λ z. after_reply (log_of first earlier) (report m k) z) step.answered in
+    record {
+      held = ap (λ z. z.held) goes;
+      noted = so_far.noted ∙ sym (ap (λ z. z.notes) goes);
+      stands = led_on w so_far.held.last so_far.held.entry so_far.stands told;
+    }
+  where
+    led_on : (w : Airing) {p : Model} {ps : List ℕ} → last_order earlier ≡ Some (p, ps) → w.portfolio ≡ named ps w.account.state
+        → state_in first earlier ≡ w.account.state → Reported m w k a
+        → state_in first (record { call = report m k; reply = goes_on Open } ∷ earlier) ≡ a.state
+    led_on w last entry stands told =
+        let there = ap (λ x. slice_get (outcomes_of m w.account.state x) k) (sym entry) ∙ told.there in
+        rw (last, stands, there) (sym (ap (λ z. z.state) told.moves))
+looks first es b (report_was_refused {es = earlier} {w = w} m k n p before lawful why) =
+    let so_far = looks first earlier (on_air w) before in
+    let step = not_reported first (log_of first earlier) (endings_of earlier) w m k n p (mirrored first earlier (on_air w) before).1 why in
+    let stays = ap (λ z. after_reply (log_of first earlier) (report m k) z) step.answered in
+    record {
+      held = still_held earlier _ (log_of first earlier).held _ w.account.state w.portfolio refl (ap (λ z. z.held) stays) so_far.held;
+      noted = so_far.noted ∙ sym (ap (λ z. z.notes) stays);
+      stands = so_far.stands;
+    }
 
 -- the past without its refused calls
 without : (first : ℕ) (es : List Event) (b : Book) → Past first es b → Past first (filter is_accepted es) b
@@ -288,15 +356,18 @@ pub kept : (first : ℕ) (es : List Event) (b : Book) → Past first es b → Ke
 kept first es b past =
     let log = mirrored first es b past in
     let counts = counted first es b past in
+    let seen = looks first es b past in
     record {
       answered = log.0;
       agrees = agrees_from first (log_of first es) (endings_of es) b log.1;
-      accounted = accounts_from first (log_of first es) (endings_of es) b log.1;
+      held = seen.held;
+      noted = seen.noted;
+      stands = seen.stands;
+      accounted = subst (λ ws. AccountFor first ws (endings_of es) b) (sym seen.noted) (accounts_from first (log_of first es) (endings_of es) b log.1);
       windows = counts.0;
       turns = counts.1;
-      held = held_named first es b past;
       full = full_exactly first es b past;
       without_refused = without first es b past;
       same_log = same_without first es log.0;
-      known = λ m start_in beside. let all = all_known first es b m past start_in beside in (all.0, all.1.notes, ended_beside m es beside);
+      known = λ m start_in beside. let all = all_known first es b m past start_in beside in (all.0, subst (EachOf m) (sym seen.noted) all.1.notes, ended_beside m es beside);
     }

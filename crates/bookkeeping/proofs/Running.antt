@@ -13,7 +13,7 @@ use Rattle.bookkeeping.specs.declared.standing.Answer.{Answer}
 use Rattle.bookkeeping.specs.declared.standing.Answer.TheVariants.{Next, Refused}
 use Rattle.bookkeeping.specs.Books.{Book, opened, issued, on_air, account_of}
 use Rattle.bookkeeping.specs.Log.{Log, start, Call, issue, carry_out, report, Reply, reply, after, after_reply, Agrees}
-use Rattle.bookkeeping.specs.LookingBack.{Ending, endings_of, AccountFor, EachOf, EachEndedBeside, IsBeside, AllBeside, GoesOn, Continues}
+use Rattle.bookkeeping.specs.LookingBack.{windows_in, Ending, endings_of, AccountFor, EachOf, EachEndedBeside, IsBeside, AllBeside, GoesOn, Continues}
 use Rattle.bookkeeping.specs.Pasts.{Event, Past, log_of}
 use Rattle.bookkeeping.specs.Runs.{log_replies, log_after, events_after, fitting, with_room, is_aired, RanInto}
 use Rattle.bookkeeping.specs.Standings.{asked, reply_of, fits, event_of, Answered}
@@ -164,6 +164,7 @@ through m first calls old new b n end least inside =
     let so = goes_on_so first es b end.past in
     let all : cs ≡ with_room m calls old = ap (map (asked m)) (take_min n (length old) calls least) in
     let known = so.1.known m inside (all_beside m (take n calls) [] (log_replies (start first) cs) tt) in
+    let noted = so.1.noted ∙ ap (λ l. l.notes) same in
     let agrees : Agrees (log_after (start first) cs) b = subst (λ l. Agrees l b) same so.1.agrees in
     record {
       told = end.told;
@@ -172,10 +173,11 @@ through m first calls old new b n end least inside =
         replies = end.replies ∙ ap (λ z. log_replies (start first) z) all;
         agrees = subst (λ z. Agrees (log_after (start first) z) b) all agrees;
         windows = (log_after (start first) cs).notes;
-        of_plant = subst (λ l. EachOf m l.notes) same known.1;
+        are = subst (λ z. (log_after (start first) cs).notes ≡ windows_in first (fitting first z)) all (sym noted);
+        of_plant = subst (EachOf m) noted known.1;
         ended = subst (λ z. EachEndedBeside m (endings_of (fitting first z))) all known.2;
         accounted = subst (λ z. AccountFor first (log_after (start first) cs).notes (endings_of (fitting first z)) b) all
-            (subst (λ l. AccountFor first l.notes (endings_of es) b) same so.1.accounted);
+            (subst (λ ws. AccountFor first ws (endings_of es) b) noted so.1.accounted);
         booked = agrees.windows;
         seconds = agrees.seconds;
         cents = agrees.cents;

@@ -1,7 +1,8 @@
 -- What a book shows at each of its three stages.
-use Rattle.std.specs.Prelude.{ℕ, ◌+◌, ◌*◌, ◌≤◌, Option, Some, None}
+use Rattle.std.specs.Prelude.{ℕ, ◌+◌, ◌-◌, ◌*◌, ◌<◌, ◌≤◌, Option, Some, None}
 use Rattle.interface.specs.declared.plant.Bill.{Bill}
 use Rattle.interface.specs.Limits.{most_windows, most_seconds, most_cents}
+use Rattle.interface.specs.Plants.{LawfulBill}
 
 -- Where a book stands, and what it has booked: how many windows, and their dark seconds and cents, added up.
 pub record Account : Type 0 where
@@ -39,6 +40,10 @@ airing s w t c x = record { account = account s w t c; portfolio = x }
 abbrev pub booked : Account → Bill → Account
 booked a b = account a.state (a.windows + 1) (a.seconds + b.seconds) (a.cents + b.cents)
 
+-- What a book's totals grew by, as one bill.
+abbrev pub grown : Account → Account → Bill
+grown a b = record { seconds = b.seconds - a.seconds; cents = b.cents - a.cents }
+
 -- An account in another state.
 abbrev pub moved : Account → ℕ → Account
 moved a s = account s a.windows a.seconds a.cents
@@ -69,3 +74,9 @@ pub record Bounded (a : Account) : Type 0 where
   pub windows : a.windows ≤ most_windows
   pub seconds : a.seconds ≤ most_seconds * a.windows
   pub cents : a.cents ≤ most_cents * a.windows
+
+-- An order is due: what its book has booked lies within that, a window is left, and its bill is lawful.
+pub record Due (o : Order) : Type 0 where
+  pub bounded : Bounded o.account
+  pub room : o.account.windows < most_windows
+  pub bill : LawfulBill o.bill

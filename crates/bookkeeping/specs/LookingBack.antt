@@ -1,9 +1,10 @@
--- What one finds who looks back on the past of a book, said without the log's steps.
+-- What one finds who looks back on the past of a book: its orders, windows and outcomes by its events alone, and the log's
+-- beside them.
 use Rattle.std.specs.Prelude.{◌≡◌, ◌≢◌, ℕ, ◌+◌, ◌<◌, ◌≤◌, ◌↔◌, true, Bool, false, List, [], ◌∷◌, Option, Some, None, ⊤, filter, count_by, slice_get}
 use Rattle.interface.specs.declared.plant.Outcome.{Outcome}
 use Rattle.interface.specs.Limits.{most_windows}
 use Rattle.interface.specs.Plants.{Model, Lawful, named, outcomes_of}
-use Rattle.bookkeeping.specs.Books.{Order, Book, opened, issued, on_air, account_of}
+use Rattle.bookkeeping.specs.Books.{Book, opened, issued, on_air, account_of}
 use Rattle.bookkeeping.specs.Log.{Note, Call, issue, carry_out, report, Reply, goes_on, refused, Agrees}
 use Rattle.bookkeeping.specs.Pasts.{Event, Past, log_of, EachAnswered}
 
@@ -62,23 +63,49 @@ last_order (e ∷ es) = order_or e.call e.reply (last_order es)
     order_or (issue m ps) (goes_on s) earlier = Some (m, ps)
     order_or c r earlier = earlier
 
--- A portfolio is the one that the newest order's policy names for a state.
-pub record IsNamed (es : List Event) (s x : ℕ) : Type 0 where
-  pub plant : Model
-  pub policy : List ℕ
-  pub last : last_order es ≡ Some (plant, policy)
-  pub entry : x ≡ named policy s
-
--- What a book holds was named by its newest order.
-abbrev pub HoldsNamed : List Event → Book → Type 0
-HoldsNamed es (opened a) = ⊤
-HoldsNamed es (issued o) = IsNamed es o.account.state o.portfolio
-HoldsNamed es (on_air w) = IsNamed es w.account.state w.portfolio
-
 -- A window's portfolio is feasible in its state beside its plant.
 pub record Allowed (w : Note) : Type 0 where
   pub lawful : Lawful w.plant
   pub feasible : w.plant.feasible w.state w.portfolio ≡ true
+
+-- The newest order's window is held: its policy names this portfolio for this state, and its plant allows it there.
+pub record IsHeld (es : List Event) (held : Option Note) (s x : ℕ) : Type 0 where
+  pub plant : Model
+  pub policy : List ℕ
+  pub last : last_order es ≡ Some (plant, policy)
+  pub entry : x ≡ named policy s
+  pub allowed : Allowed (record { plant = plant; state = s; portfolio = x })
+  pub noted : held ≡ Some (record { plant = plant; state = s; portfolio = x })
+
+-- What a book holds is its newest order's, and while the order is out, its bill is that order's too.
+abbrev pub Holds : List Event → Option Note → Book → Type 0
+Holds es held (opened a) = held ≡ None
+Holds es held (issued o) =
+    (h : IsHeld es held o.account.state o.portfolio) × (h.plant.bill o.account.state o.portfolio ≡ o.bill)
+Holds es held (on_air w) = IsHeld es held w.account.state w.portfolio
+
+-- The state in which a past ends: where the outcomes led that were reported, from its first state.
+abbrev pub state_in : ℕ → List Event → ℕ
+state_in first [] = first
+state_in first (e ∷ es) = led e.call e.reply (last_order es) (state_in first es)
+  where
+    next_or : ℕ → Option Outcome → ℕ
+    next_or s None = s
+    next_or s (Some o) = o.next
+
+    led : Call → Reply → Option (Model × List ℕ) → ℕ → ℕ
+    led (report m k) (goes_on g) (Some order) s = next_or s (slice_get (outcomes_of m s (named order.1 s)) k)
+    led c r order s = s
+
+-- The windows that were carried out, the newest first: each beside its order's plant, in the state in which the past before it
+-- ends, with the portfolio that the order's policy names there.
+abbrev pub windows_in : ℕ → List Event → List Note
+windows_in first [] = []
+windows_in first (e ∷ es) = window_and e.call (last_order es) (state_in first es) (windows_in first es)
+  where
+    window_and : Call → Option (Model × List ℕ) → ℕ → List Note → List Note
+    window_and carry_out (Some order) s earlier = record { plant = order.0; state = s; portfolio = named order.1 s } ∷ earlier
+    window_and c order s earlier = earlier
 
 -- How a window ended: in the outcome of this number, beside this plant.
 pub record Ending : Type 0 where
@@ -150,35 +177,27 @@ pub record Kept (first : ℕ) (es : List Event) (b : Book) : Type 0 where
   -- each reply is the log's, and the book shows what the log says
   pub answered : EachAnswered first es
   pub agrees : Agrees (log_of first es) b
+  -- what the book holds is its newest order's, and the log's
+  pub held : Holds es (log_of first es).held b
+  -- the windows of its events are the log's, and the outcomes led to where it stands
+  pub noted : windows_in first es ≡ (log_of first es).notes
+  pub stands : state_in first es ≡ (account_of b).state
   -- nothing infeasible was carried out, and the windows lead by the reports from the first state to where the book stands
-  pub accounted : AccountFor first (log_of first es).notes (endings_of es) b
+  pub accounted : AccountFor first (windows_in first es) (endings_of es) b
   pub windows : (account_of b).windows ≡ windows_of es
   pub turns : TakesTurns es b
-  pub held : HoldsNamed es b
   pub full : FullExactly es
   -- a refused call could be left out, and nothing after it would differ
   pub without_refused : Past first (filter is_accepted es) b
   pub same_log : log_of first (filter is_accepted es) ≡ log_of first es
   -- beside one plant no call is told that the plant does not know its state, and windows and reports are of that plant
   pub known : (m : Model) → first < m.states → AllBeside m es
-      → NoneUnknown es × EachOf m (log_of first es).notes × EachEndedBeside m (endings_of es)
+      → NoneUnknown es × EachOf m (windows_in first es) × EachEndedBeside m (endings_of es)
 
 -- A past goes on to a book, and all that is kept of it holds.
 abbrev pub GoesOn : ℕ → List Event → Book → Type 0
 GoesOn first es b = Past first es b × Kept first es b
 
--- Some past accounts for a book.
-abbrev pub IsAccountedFor : Book → Type 0
-IsAccountedFor b = ∥ ((first : ℕ) × (es : List Event) × GoesOn first es b) ∥₁
-
 -- Whatever past led to a book goes on, by an event, to another.
 abbrev pub Continues : Book → Event → Book → Type 0
 Continues b e c = (first : ℕ) (es : List Event) → Past first es b → GoesOn first (e ∷ es) c
-
--- Some plant allowed an order in the state in which its book stands, at the bill that it has.
-abbrev pub WasAllowed : Order → Type 0
-WasAllowed o =
-    ∥ ((m : Model)
-    × Lawful m
-    × (m.feasible o.account.state o.portfolio ≡ true)
-    × (m.bill o.account.state o.portfolio ≡ o.bill)) ∥₁

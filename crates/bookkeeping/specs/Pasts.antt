@@ -2,7 +2,7 @@
 use Rattle.std.specs.Prelude.{◌≡◌, ℕ, ◌<◌, List, [], ◌∷◌, Some, ⊤}
 use Rattle.interface.specs.Plants.{Model, Lawful}
 use Rattle.bookkeeping.specs.declared.stage.Stage.TheVariants.{Open, Issued, OnAir}
-use Rattle.bookkeeping.specs.Books.{Account, Order, Airing, Book, opened, issued, on_air, fresh, aired, account_of, Bounded}
+use Rattle.bookkeeping.specs.Books.{Account, Order, Airing, Book, opened, issued, on_air, fresh, aired}
 use Rattle.bookkeeping.specs.Calls.{MayIssue, ordered, IssueRefused, Reported, ReportRefused}
 use Rattle.bookkeeping.specs.Log.{Log, start, Call, issue, carry_out, report, Reply, goes_on, refused, reply, after}
 
@@ -31,15 +31,6 @@ pub data Past (first : ℕ) : List Event → Book → Type 0 where
   report_was_refused : {es : List Event} {w : Airing} (m : Model) (k n p : ℕ)
       → Past first es (on_air w) → Lawful m → ReportRefused m w k n p
       → Past first (record { call = report m k; reply = refused n p } ∷ es) (on_air w)
-
--- Some past leads to a book.
-abbrev pub HasPast : Book → Type 0
-HasPast b = (first : ℕ) × (es : List Event) × Past first es b
-
--- What every book keeps: it has booked no more than so many windows can cost, and some past leads to it.
-pub record Lasting (b : Book) : Type 0 where
-  pub bounded : Bounded (account_of b)
-  pub past : ∥ HasPast b ∥₁
 
 -- The log that is fed the calls of a past.
 abbrev pub log_of : ℕ → List Event → Log

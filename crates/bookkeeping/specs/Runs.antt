@@ -7,7 +7,7 @@ use Rattle.bookkeeping.specs.declared.standing.Answer.{Answer}
 use Rattle.bookkeeping.specs.declared.standing.Answer.TheVariants.{Next}
 use Rattle.bookkeeping.specs.Books.{Book, account_of}
 use Rattle.bookkeeping.specs.Log.{Note, Log, start, Call, Reply, reply, after, noted_seconds, noted_cents, Agrees}
-use Rattle.bookkeeping.specs.LookingBack.{endings_of, AccountFor, EachOf, EachEndedBeside, GoesOn}
+use Rattle.bookkeeping.specs.LookingBack.{windows_in, endings_of, AccountFor, EachOf, EachEndedBeside, GoesOn}
 use Rattle.bookkeeping.specs.Pasts.{Event}
 use Rattle.bookkeeping.specs.Standings.{asked, reply_of}
 
@@ -46,8 +46,10 @@ pub record Ran (m : Model) (first : ℕ) (cs : List Call) (told : List (Option A
   -- each answer is the log's, and the book shows what the log says at its end
   pub replies : map (option_map reply_of) told ≡ log_replies (start first) cs
   pub agrees : Agrees (log_after (start first) cs) b
-  -- windows of this plant account for the book, one for each answer that a window is on air, and their bills for its totals
+  -- the windows of the calls that fit are of this plant and account for the book: one for each answer that a window is on air,
+  -- and their bills for its totals
   pub windows : List Note
+  pub are : windows ≡ windows_in first (fitting first cs)
   pub of_plant : EachOf m windows
   pub ended : EachEndedBeside m (endings_of (fitting first cs))
   pub accounted : AccountFor first windows (endings_of (fitting first cs)) b

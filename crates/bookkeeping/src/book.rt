@@ -1,11 +1,10 @@
-//! A book at its three stages: open, issued and on air. Each call uses it up and makes the next of
-//! its numbers, so the three stand together.
+//! A book at its three stages: open, issued and on air. Each call uses it up and makes the next.
 ghost use Rattle.std.specs.Prelude.{◌≡◌, ℕ, ◌<◌, ◌↔◌, [], true, IsOk, IfOk, IfErr};
 ghost use Rattle.interface.specs.Plants.{Model, named};
 ghost use Rattle.bookkeeping.specs.Books.{Account, Order, Airing, opened, issued, on_air, fresh, aired};
 ghost use Rattle.bookkeeping.specs.Calls.{MakeRefused, MayIssue, ordered, IssueRefused, MayReport, Reported, ReportRefused};
 ghost use Rattle.bookkeeping.specs.Entries.{EntryOf, NoEntry};
-ghost use Rattle.bookkeeping.specs.LookingBack.{Continues, GoesOn, IsAccountedFor, WasAllowed};
+ghost use Rattle.bookkeeping.specs.LookingBack.{Continues, GoesOn};
 ghost use Rattle.bookkeeping.specs.Results.{IsNotMade, IsRefused, issue_event, carry_out_event, report_event, after_issue, after_report};
 
 use crate::refusal::{Refusal, Refused};
@@ -23,14 +22,13 @@ pub struct Open {
 }
 
 impl Model for Open {
-    ghost use Rattle.bookkeeping.specs.Books.{Account, account, opened};
-    ghost use Rattle.bookkeeping.specs.Pasts.{Lasting};
+    ghost use Rattle.bookkeeping.specs.Books.{Account, account, Bounded};
 
     ghost Value = { Account };
 
     ghost view = { λ b. account b.state b.windows b.seconds b.cents };
 
-    ghost invariant = { λ b. Lasting (opened (account b.state b.windows b.seconds b.cents)) };
+    ghost invariant = { λ b. Bounded (account b.state b.windows b.seconds b.cents) };
 }
 
 impl Open {
@@ -53,10 +51,9 @@ impl Open {
         })
     }
 
-    /// The state in which the book stands. Some past accounts for the book.
+    /// The state in which the book stands.
     pub fn state(&self) -> usize
-        ensures state { result ≡ self.now.state }
-        ensures accounted { IsAccountedFor (opened self.now) }
+        ensures { result ≡ self.now.state }
     {
         self.state
     }
@@ -109,7 +106,6 @@ impl Open {
         ensures kept { IfErr result (λ r. r.book ≡ self) }
         ensures past { Continues (opened self) (issue_event (P.model plant.now) policy.now result)
             (after_issue result) }
-        ensures accounted { IsAccountedFor (after_issue result) }
     {
         match self.entry(plant, policy) {
             Err(why) => Err(Refused { book: self, why }),
@@ -143,24 +139,20 @@ pub struct Issued {
 }
 
 impl Model for Issued {
-    ghost use Rattle.bookkeeping.specs.Books.{Order, order, issued};
-    ghost use Rattle.bookkeeping.specs.Pasts.{Lasting};
+    ghost use Rattle.bookkeeping.specs.Books.{Order, order, Due};
 
     ghost Value = { Order };
 
     ghost view = { λ b. order b.state b.windows b.seconds b.cents b.portfolio b.bill };
 
-    ghost invariant = { λ b.
-        Lasting (issued (order b.state b.windows b.seconds b.cents b.portfolio b.bill)) };
+    ghost invariant = { λ b. Due (order b.state b.windows b.seconds b.cents b.portfolio b.bill) };
 }
 
 impl Issued {
     /// Carries the order out: one window more, at its bill.
     pub fn carry_out(self) -> OnAir
         ensures aired { result ≡ aired self }
-        ensures allowed { WasAllowed self }
         ensures past { Continues (issued self) carry_out_event (on_air result) }
-        ensures accounted { IsAccountedFor (on_air result) }
     {
         OnAir {
             state: self.state,
@@ -171,10 +163,9 @@ impl Issued {
         }
     }
 
-    /// The state in which the book stands. Some past accounts for the book.
+    /// The state in which the book stands.
     pub fn state(&self) -> usize
-        ensures state { result ≡ self.now.account.state }
-        ensures accounted { IsAccountedFor (issued self.now) }
+        ensures { result ≡ self.now.account.state }
     {
         self.state
     }
@@ -226,15 +217,13 @@ pub struct OnAir {
 }
 
 impl Model for OnAir {
-    ghost use Rattle.bookkeeping.specs.Books.{Airing, airing, on_air};
-    ghost use Rattle.bookkeeping.specs.Pasts.{Lasting};
+    ghost use Rattle.bookkeeping.specs.Books.{Airing, account, airing, Bounded};
 
     ghost Value = { Airing };
 
     ghost view = { λ b. airing b.state b.windows b.seconds b.cents b.portfolio };
 
-    ghost invariant = { λ b.
-        Lasting (on_air (airing b.state b.windows b.seconds b.cents b.portfolio)) };
+    ghost invariant = { λ b. Bounded (account b.state b.windows b.seconds b.cents) };
 }
 
 impl OnAir {
@@ -247,7 +236,6 @@ impl OnAir {
         ensures kept { IfErr result (λ r. r.book ≡ self) }
         ensures past { Continues (on_air self) (report_event (P.model plant.now) outcome result)
             (after_report result) }
-        ensures accounted { IsAccountedFor (after_report result) }
     {
         let portfolio = usize::from(self.portfolio);
         if !plant.feasible(self.state, portfolio) {
@@ -268,10 +256,9 @@ impl OnAir {
         }
     }
 
-    /// The state in which the window was carried out. Some past accounts for the book.
+    /// The state in which the window was carried out.
     pub fn state(&self) -> usize
-        ensures state { result ≡ self.now.account.state }
-        ensures accounted { IsAccountedFor (on_air self.now) }
+        ensures { result ≡ self.now.account.state }
     {
         self.state
     }

@@ -26,7 +26,6 @@ pub fn run<P: Plant>(
         RanInto (P.model plant.now) state calls.now answers.old answers.new (book_of book)) }
 {
     let mut book = Standing::Open(Open::make(plant, state)?);
-    // By index: over `iter().zip(iter_mut())` no invariant can name what the space holds.
     for at in 0..calls.len().min(answers.len()) {
         let (next, answer) = book.call(plant, &calls[at]);
         book = next;

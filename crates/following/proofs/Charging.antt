@@ -8,9 +8,9 @@ use Rattle.interface.specs.Limits.{most_windows}
 use Rattle.interface.specs.Plants.{Model, Lawful, outcomes_of, named}
 use Rattle.interface.specs.Rows.{Row, zeros, plus, times}
 use Rattle.interface.specs.Tariffs.{Scale, LawfulScale, price}
-use Rattle.bookkeeping.specs.Books.{Account, booked, moved}
+use Rattle.bookkeeping.specs.Books.{Account, booked, moved, grown}
 use Rattle.following.specs.Rules.{Met, CanMeet, cost, cost_behind, weighed}
-use Rattle.following.specs.Promises.{Policies, by_policies, GoesThrough, grown}
+use Rattle.following.specs.Promises.{Policies, by_policies, GoesThrough}
 use Rattle.lookahead.proofs.Bounds.{plus_zeros}
 use Rattle.following.proofs.Groups.{swap_middle, times_add}
 use Rattle.following.proofs.Halves.{stays}

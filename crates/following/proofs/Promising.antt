@@ -11,9 +11,9 @@ use Rattle.certificate.specs.Certificates.{Sound, Top, Bottom}
 use Rattle.certificate.specs.Findings.{Verdict}
 use Rattle.certificate.specs.declared.finding.Finding.{Finding}
 use Rattle.certificate.specs.declared.refusal.Refusal.{Refusal}
-use Rattle.bookkeeping.specs.Books.{Account}
+use Rattle.bookkeeping.specs.Books.{Account, grown}
 use Rattle.following.specs.Rules.{lists, weight, cost, costs}
-use Rattle.following.specs.Promises.{Policies, by_policies, GoesThrough, grown, charged, allowance, Promise, always, Promised}
+use Rattle.following.specs.Promises.{Policies, by_policies, GoesThrough, charged, allowance, Promise, always, Promised}
 use Rattle.following.proofs.Bounding.{policies_play, against}
 use Rattle.following.proofs.Charging.{run, grown_costs, weighed_same, gone, goes}
 use Rattle.following.proofs.Enumerating.{listed_exactly, enumerates}

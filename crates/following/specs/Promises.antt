@@ -1,11 +1,10 @@
 -- What an accepted certificate promises of the cost of every book that follows it.
-use Rattle.std.specs.Prelude.{◌≡◌, ℕ, suc, ◌+◌, ◌-◌, ◌^◌, ◌<◌, ◌≤◌, List, [], ◌∷◌, length, Contains}
-use Rattle.interface.specs.declared.plant.Bill.{Bill}
+use Rattle.std.specs.Prelude.{◌≡◌, ℕ, suc, ◌+◌, ◌^◌, ◌<◌, ◌≤◌, List, [], ◌∷◌, length, Contains}
 use Rattle.interface.specs.Limits.{whole, most_windows}
 use Rattle.interface.specs.Plants.{Model, named}
 use Rattle.interface.specs.Rows.{Row, plus, minus, times}
 use Rattle.interface.specs.Tariffs.{Scale, AtMost, price}
-use Rattle.bookkeeping.specs.Books.{Account, aired}
+use Rattle.bookkeeping.specs.Books.{Account, aired, grown}
 use Rattle.bookkeeping.specs.Calls.{MayIssue, ordered, Reported}
 use Rattle.certificate.specs.declared.finding.Finding.{Finding}
 use Rattle.following.specs.Rules.{Rule, lists, weight, weighed, costs, Plays, Enumerates}
@@ -24,10 +23,6 @@ abbrev pub GoesThrough : Model → Policies → ℕ → Account → List ℕ →
 GoesThrough m ps j a [] b = b ≡ a
 GoesThrough m ps j a (k ∷ ks) b =
     MayIssue m a (ps j) × (c : Account) × Reported m (aired (ordered m a (ps j))) k c × GoesThrough m ps (suc j) c ks b
-
--- What a book's totals grew by, as one bill.
-abbrev pub grown : Account → Account → Bill
-grown a b = record { seconds = b.seconds - a.seconds; cents = b.cents - a.cents }
 
 -- What following costs a book over n windows: what its totals grow by to the end of each list, priced and weighed.
 abbrev pub charged : Model → Scale → Policies → ℕ → Account → (List ℕ → Account) → Row

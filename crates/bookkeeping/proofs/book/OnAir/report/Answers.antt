@@ -1,10 +1,8 @@
 use Rattle.std.proofs.Common.{◌≡◌, ℕ, true, false, Some, None, ◌↔◌, ap, sym, refl, subst, arith, rules}
 use Rattle.std.specs.List.{slice_get}
 use Rattle.interface.specs.Plants.{outcomes_of}
-use Rattle.bookkeeping.specs.Books.{on_air}
 use Rattle.bookkeeping.specs.Calls.{ReportRefused, not_allowed}
-use Rattle.bookkeeping.specs.Pasts.{Lasting}
-use Rattle.bookkeeping.proofs.Booking.{accounted, outcome_absent, outcome_book, no_report_goes_on}
+use Rattle.bookkeeping.proofs.Booking.{outcome_absent, outcome_book, no_report_goes_on}
 use Rattle.bookkeeping.proofs.Replies.{report_exactly, report_not_both}
 use Rattle.bookkeeping.proofs.book.OnAir.report.Goals as goal
 
@@ -22,14 +20,11 @@ returns-then-not-feasible-clause-past g c =
     no_report_goes_on m c.args.self c.args.outcome 21 c.self.inside.state (g.met.P.Plant.lawful c.args.plant.now)
     (subst (λ s. ReportRefused m c.args.self c.args.outcome 21 s) (sym (ap (λ w. w.account.state) c.self.view_is)) (not_allowed out))
 
-pub returns-then-not-feasible-clause-accounted : goal.returns-then-not-feasible-clause-accounted
-returns-then-not-feasible-clause-accounted g c = accounted _ (subst (λ w. Lasting (on_air w)) c.self.view_is c.self.invariant)
-
 pub invariant_of-result : goal.invariant_of-result
 invariant_of-result g c =
     let m = g.P.Plant.model c.args.plant.now in
     let there : slice_get (outcomes_of m c.args.self.account.state c.args.self.portfolio) c.args.outcome ≡ Some c.in-Some.reached = search rules in
-    (outcome_book m c.args.self _ c.args.outcome c.in-Some.reached (g.met.P.Plant.lawful c.args.plant.now) c.self.view_is c.self.invariant there).lasting
+    (outcome_book m c.args.self _ c.args.outcome c.in-Some.reached (g.met.P.Plant.lawful c.args.plant.now) c.self.view_is c.self.invariant there).bounded
 
 pub returns-in-None-clause-done : goal.returns-in-None-clause-done
 returns-in-None-clause-done g c =
@@ -53,9 +48,6 @@ returns-in-None-clause-past g c =
     let none : slice_get (outcomes_of m c.args.self.account.state c.args.self.portfolio) c.args.outcome ≡ None = search rules in
     no_report_goes_on m c.args.self c.args.outcome 23 c.args.outcome (g.met.P.Plant.lawful c.args.plant.now) (outcome_absent m c.args.self c.args.outcome may none)
 
-pub returns-in-None-clause-accounted : goal.returns-in-None-clause-accounted
-returns-in-None-clause-accounted g c = accounted _ (subst (λ w. Lasting (on_air w)) c.self.view_is c.self.invariant)
-
 pub returns-in-Some-clause-done : goal.returns-in-Some-clause-done
 returns-in-Some-clause-done g c =
     let m = g.P.Plant.model c.args.plant.now in
@@ -75,9 +67,3 @@ returns-in-Some-clause-past g c =
     let m = g.P.Plant.model c.args.plant.now in
     let there : slice_get (outcomes_of m c.args.self.account.state c.args.self.portfolio) c.args.outcome ≡ Some c.in-Some.reached = search rules in
     (outcome_book m c.args.self _ c.args.outcome c.in-Some.reached (g.met.P.Plant.lawful c.args.plant.now) c.self.view_is c.self.invariant there).goes_on
-
-pub returns-in-Some-clause-accounted : goal.returns-in-Some-clause-accounted
-returns-in-Some-clause-accounted g c =
-    let m = g.P.Plant.model c.args.plant.now in
-    let there : slice_get (outcomes_of m c.args.self.account.state c.args.self.portfolio) c.args.outcome ≡ Some c.in-Some.reached = search rules in
-    accounted _ (outcome_book m c.args.self _ c.args.outcome c.in-Some.reached (g.met.P.Plant.lawful c.args.plant.now) c.self.view_is c.self.invariant there).lasting

@@ -1,14 +1,11 @@
 use Rattle.std.proofs.Common.{arith, []}
 use Rattle.bookkeeping.specs.Pasts.{made}
-use Rattle.bookkeeping.proofs.Booking.{goes_on_so, lasting_make}
+use Rattle.bookkeeping.proofs.Booking.{goes_on_so}
 use Rattle.bookkeeping.proofs.Replies.{make_exactly}
 use Rattle.bookkeeping.proofs.book.Open.make.Goals as goal
 
 pub returns-then-state-states-clause-refused : goal.returns-then-state-states-clause-refused
 returns-then-state-states-clause-refused g c = make_exactly (g.P.Plant.model c.args.plant.now) c.args.state (omega arith)
-
-pub invariant_of-result : goal.invariant_of-result
-invariant_of-result g c = lasting_make (g.P.Plant.model c.args.plant.now) c.args.state (g.met.P.Plant.lawful c.args.plant.now) (omega arith)
 
 pub returns-clause-past : goal.returns-clause-past
 returns-clause-past g c =
