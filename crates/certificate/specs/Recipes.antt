@@ -10,7 +10,7 @@ use Rattle.certificate.specs.declared.refusal.Refusal.{Refusal}
 use Rattle.certificate.specs.declared.refusal.Refusal.TheVariants.{WrongLength, Infeasible}
 use Rattle.certificate.specs.Refusals.{or_else, first_fault, value_fault, level}
 
--- Row u is the smallest gain that is feasible anywhere. State and portfolio name the pair that has it: among several the one in the
+-- Row u is the smallest gain that anything feasible has. State and portfolio name the pair that has it: among several the one in the
 -- lowest-numbered state, and there the lowest-numbered portfolio.
 pub record Lowest (m : Model) (t : Scale) (vs : List Row) (u : Row) : Type 0 where
   pub state : ℕ
@@ -35,7 +35,7 @@ pub record Fitting (m : Model) (vs : List Row) (ps : List ℕ) : Type 0 where
   pub policy : length ps ≡ m.states
   pub feasible : (s : ℕ) → s < m.states → m.feasible s (named ps s) ≡ true
 
--- The smallest gain that is feasible in a state.
+-- The smallest gain of what is feasible in a state, if anything is.
 abbrev pub row_of : Option Pick → Option Row
 row_of None = None
 row_of (Some p) = Some p.row

@@ -46,8 +46,8 @@ fn state_low<P: Plant, T: Tariff>(valued: &ValuedPlant<P, T>, state: usize) -> O
     valued.least_gain(state).map(|choice| choice.amount)
 }
 
-// The smallest gain that is feasible anywhere. Where several pairs reach it, the lowest-numbered state
-// stands for them, with its lowest-numbered portfolio.
+// The smallest gain that anything feasible has. Where several pairs have it, the lowest-numbered
+// state stands for them, with its lowest-numbered portfolio.
 fn lowest<P: Plant, T: Tariff>(valued: &ValuedPlant<P, T>) -> Option<Choice<T::Amount>>
     ensures { option_map (pick T.Tariff.row) result
         ≡ first_best (cheaper (T.scale valued.now.tariff.now))
@@ -74,8 +74,8 @@ fn policy_gain<P: Plant, T: Tariff>(
     valued.gain(state, usize::from(portfolio))
 }
 
-// The largest gain that the policy meets in any state. Where several states reach it, the
-// lowest-numbered stands for them.
+// The largest gain that the policy meets. Where it does so in several states, the lowest-numbered
+// stands for them.
 fn highest<P: Plant, T: Tariff>(
     valued: &ValuedPlant<P, T>,
     policy: &[u16],

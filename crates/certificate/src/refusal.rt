@@ -6,7 +6,7 @@ ghost use Rattle.certificate.specs.Refusals.{number_of, place_of};
 pub enum Refusal {
     /// Values or policy: more or fewer entries than the plant has states.
     WrongLength,
-    /// An amount reaches too far: the value of this state, or a claim, told as the number of states.
+    /// This state's value reaches too far; at the number of states, a claim does.
     BeyondReach(usize),
     /// What the policy names in this state cannot be done there.
     Infeasible(usize),
