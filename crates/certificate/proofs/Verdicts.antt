@@ -1,6 +1,6 @@
 -- What the answer of the check says, and that of the recipe, in the words of their laws.
 use Rattle.std.proofs.Common.{◌≡◌, ◌↔◌, ℕ, List, map, Some, None, Ok, Err, Option, Result, refl, ap, ◌∙◌, subst, arith}
-use Rattle.std.specs.Result.{IsOk, IfOk, IfErr}
+use Rattle.std.specs.Result.{IsOk, IfOk}
 use Rattle.interface.specs.Plants.{Model, Lawful}
 use Rattle.interface.specs.Rows.{Row}
 use Rattle.interface.specs.Tariffs.{Scale, LawfulScale}
@@ -9,7 +9,7 @@ use Rattle.lookahead.proofs.Bounds.{EachFit}
 use Rattle.certificate.specs.Certificates.{Sound}
 use Rattle.certificate.specs.Claims.{Recipe}
 use Rattle.certificate.specs.ExactClaims.{Claimable, NoTighter, Tightest}
-use Rattle.certificate.specs.Findings.{Verdict}
+use Rattle.certificate.specs.Findings.{Verdict, Accepts}
 use Rattle.certificate.specs.RecipeRefusedAs.{RecipeRefusedAs}
 use Rattle.certificate.specs.Recipes.{Lowest, Highest, Fitting}
 use Rattle.certificate.specs.RefusedAs.{RefusedAs, IsRefused}
@@ -44,9 +44,8 @@ module _ {A : Type 0} (row : A → Row) (m : Model) (lawful : Lawful m) (t : Sca
         (ap number_of same ∙ told.number, ap place_of same ∙ told.place),
   )
 
-  pub reason_of : (r : Result (Finding A) Refusal) → Verdict row m t vs ps low high r → IfErr r (λ e. RefusedAs m t vs ps (row low) (row high) (number_of e) (place_of e))
-  reason_of (Ok f) h = tt
-  reason_of (Err e) h = reason_from m lawful t vs ps (row low) (row high) e h
+  pub accepts_sound : Sound m t vs ps (row low) (row high) → Accepts row m t vs ps low high
+  accepts_sound sound r h = (exact_from r h).1 sound
 
   pub loose_from : LawfulScale t → EachFit t.places vs → (r : Result (Finding A) Refusal) → Verdict row m t vs ps low high r → Claimable t (row low) (row high)
       → Fitting m vs ps → (l h : Row) → Lowest m t vs l → Highest m t vs ps h → IsOk r ↔ NoTighter t (row low) (row high) l h
@@ -73,14 +72,14 @@ module _ {A : Type 0} (row : A → Row) (m : Model) (t : Scale) (xs : List A) (p
         (ap number_of same ∙ told.number, ap place_of same ∙ told.place),
   )
 
-  pub recipe_reason_of : (r : Result (Claims A) Refusal) → Recipe row m t vs ps r → IfErr r (λ e. RecipeRefusedAs m t vs ps (number_of e) (place_of e))
-  recipe_reason_of (Ok c) h = tt
-  recipe_reason_of (Err e) h = recipe_reason_from m t vs ps e h
-
   module _ (lawful : Lawful m) (scaled : LawfulScale t) (fit : EachFit t.places vs) where
     pub recipe_sound : (r : Result (Claims A) Refusal) → Recipe row m t vs ps r → IfOk r (λ c. Sound m t vs ps (row c.low) (row c.high))
     recipe_sound (Ok c) h = own_sound m lawful t scaled vs fit ps (fitting_from row m t xs ps h.0) (row c.low) (row c.high) h.1 h.2
     recipe_sound (Err e) h = tt
+
+    pub recipe_accepted : (r : Result (Claims A) Refusal) → Recipe row m t vs ps r → IfOk r (λ c. Accepts row m t vs ps c.low c.high)
+    recipe_accepted (Ok c) h = accepts_sound row m lawful t vs ps c.low c.high (recipe_sound (Ok c) h)
+    recipe_accepted (Err e) h = tt
 
     pub recipe_tightest : (r : Result (Claims A) Refusal) → Recipe row m t vs ps r → IfOk r (λ c. Tightest m t vs ps (row c.low) (row c.high))
     recipe_tightest (Ok c) h = tightest m lawful t scaled vs fit ps (fitting_from row m t xs ps h.0) (row c.low) (row c.high) h.1 h.2

@@ -1,5 +1,5 @@
 -- What an acceptance carries, and what the check answers.
-use Rattle.std.specs.Prelude.{◌≡◌, ℕ, List, Some, None, Ok, Err, Result}
+use Rattle.std.specs.Prelude.{◌≡◌, ℕ, List, Some, None, Ok, Err, Result, IsOk}
 use Rattle.interface.specs.Plants.{Model}
 use Rattle.interface.specs.Rows.{Row}
 use Rattle.interface.specs.Tariffs.{Scale}
@@ -19,3 +19,7 @@ pub record Finds {A : Type 0} (row : A → Row) (m : Model) (t : Scale) (vs : Li
 abbrev pub Verdict : {A : Type 0} → (A → Row) → Model → Scale → List Row → List ℕ → A → A → Result (Finding A) Refusal → Type 0
 Verdict row m t vs ps low high (Ok f) = (refusal m t vs ps (row low) (row high) ≡ None) × Finds row m t vs low high f
 Verdict row m t vs ps low high (Err e) = refusal m t vs ps (row low) (row high) ≡ Some e
+
+-- Whatever the check answers to this table, this policy and these claims is an acceptance.
+abbrev pub Accepts : {A : Type 0} → (A → Row) → Model → Scale → List Row → List ℕ → A → A → Type 0
+Accepts {A = A} row m t vs ps low high = (r : Result (Finding A) Refusal) → Verdict row m t vs ps low high r → IsOk r

@@ -1,4 +1,5 @@
--- The recipe: of a value table and a policy, the least gain of all feasible portfolios and the greatest of the policy's.
+-- What the recipe makes of a value table and a policy: low, the smallest gain that anything feasible has, and high, the largest that the
+-- policy meets.
 use Rattle.std.specs.Prelude.{◌≡◌, ℕ, ◌<◌, true, false, cond, ◌⊎◌, List, length, Some, None, Option}
 use Rattle.interface.specs.Plants.{Model, named}
 use Rattle.interface.specs.Rows.{Row}
@@ -9,7 +10,8 @@ use Rattle.certificate.specs.declared.refusal.Refusal.{Refusal}
 use Rattle.certificate.specs.declared.refusal.Refusal.TheVariants.{WrongLength, Infeasible}
 use Rattle.certificate.specs.Refusals.{or_else, first_fault, value_fault, level}
 
--- The least gain of all feasible portfolios, the first by state and then by portfolio.
+-- Row u is the smallest gain that anything feasible has. State and portfolio name the pair that has it: among several the one in the
+-- lowest-numbered state, and there the lowest-numbered portfolio.
 pub record Lowest (m : Model) (t : Scale) (vs : List Row) (u : Row) : Type 0 where
   pub state : ℕ
   pub portfolio : ℕ
@@ -18,7 +20,7 @@ pub record Lowest (m : Model) (t : Scale) (vs : List Row) (u : Row) : Type 0 whe
   pub least : (s x : ℕ) → m.feasible s x ≡ true → AtMost t u (gain m t vs s x)
   pub first : (s x : ℕ) → m.feasible s x ≡ true → (s < state) ⊎ ((s ≡ state) × (x < portfolio)) → t.at_most (gain m t vs s x) u ≡ false
 
--- The greatest gain of the policy's portfolios, the first by state.
+-- Row u is the largest gain that the policy meets. The state is the lowest-numbered in which it meets that.
 pub record Highest (m : Model) (t : Scale) (vs : List Row) (ps : List ℕ) (u : Row) : Type 0 where
   pub state : ℕ
   pub inside : state < m.states
@@ -33,7 +35,7 @@ pub record Fitting (m : Model) (vs : List Row) (ps : List ℕ) : Type 0 where
   pub policy : length ps ≡ m.states
   pub feasible : (s : ℕ) → s < m.states → m.feasible s (named ps s) ≡ true
 
--- The first least gain of a state's feasible portfolios.
+-- The smallest gain of what is feasible in a state, if anything is.
 abbrev pub row_of : Option Pick → Option Row
 row_of None = None
 row_of (Some p) = Some p.row

@@ -1,5 +1,5 @@
 // The check of a certificate.
-ghost use Rattle.std.specs.Prelude.{◌≡◌, ◌↔◌, ℕ, List, Some, map, length, IsOk, IfErr};
+ghost use Rattle.std.specs.Prelude.{◌≡◌, ◌↔◌, ℕ, List, Some, map, length, IsOk};
 ghost use Rattle.std.specs.Prelude.{◌&&◌, ◌==◌, nat_le};
 ghost use Rattle.std.specs.Result.{result_err};
 ghost use Rattle.interface.specs.Rows.{reach};
@@ -11,7 +11,6 @@ ghost use Rattle.certificate.specs.ExactClaims.{AcceptsNoTighter};
 ghost use Rattle.certificate.specs.Findings.{Verdict};
 ghost use Rattle.certificate.specs.RefusedAs.{RefusedAs, IsRefused};
 ghost use Rattle.certificate.specs.Refusals.{refusal, first_fault, value_fault, state_fault};
-ghost use Rattle.certificate.specs.Refusals.{number_of, place_of};
 
 use crate::finding;
 use crate::finding::Finding;
@@ -173,13 +172,8 @@ pub fn check<P: Plant, T: Tariff>(
     ensures exact { IsOk result
         ↔ Sound (P.model plant.now) (T.scale tariff.now) (map T.Tariff.row values.now) policy.now
         (T.Tariff.row claims.low) (T.Tariff.row claims.high) }
-    // what is refused is refused by a rule that is broken, at its place
-    ensures refused { IfErr result (λ e.
-        RefusedAs (P.model plant.now) (T.scale tariff.now) (map T.Tariff.row values.now)
-        policy.now (T.Tariff.row claims.low) (T.Tariff.row claims.high)
-        (number_of e) (place_of e)) }
     // refused by a rule at a place exactly when that rule is broken there, and none before it
-    ensures refused_exactly { (n p : ℕ) → IsRefused result n p
+    ensures refused { (n p : ℕ) → IsRefused result n p
         ↔ RefusedAs (P.model plant.now) (T.scale tariff.now) (map T.Tariff.row values.now)
         policy.now (T.Tariff.row claims.low) (T.Tariff.row claims.high) n p }
     // accepted exactly when the claims are no tighter than the recipe's

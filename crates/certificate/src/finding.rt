@@ -12,9 +12,13 @@ use lookahead::table::ValueTable;
 /// The claims of the certificate as they came in, its first greatest value and its first least.
 #[derive(Clone, Copy, PartialEq, Eq, Debug)]
 pub struct Finding<A> {
+    /// The claim that no feasible portfolio gains less.
     pub low: A,
+    /// The claim that the policy's portfolios gain no more.
     pub high: A,
+    /// The greatest value of the table, the first among equals.
     pub top: A,
+    /// The least value of the table, the first among equals.
     pub bottom: A,
 }
 

@@ -1,4 +1,4 @@
-// Certificates: the check that accepts exactly the sound ones, and the recipe for their claims.
+//! Certificates: the check that accepts exactly the sound ones, and the recipe for their claims.
 #![tactic(auto)]
 
 pub mod check;

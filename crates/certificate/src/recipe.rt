@@ -1,5 +1,5 @@
-// The recipe: the claims that are made of a value table and a policy.
-ghost use Rattle.std.specs.Prelude.{◌≡◌, ◌↔◌, ℕ, ◌<◌, map, length, IsOk, IfOk, IfErr};
+// The recipe: what low and high follow from a value table and its policy.
+ghost use Rattle.std.specs.Prelude.{◌≡◌, ◌↔◌, ℕ, ◌<◌, map, length, IsOk, IfOk};
 ghost use Rattle.std.specs.Option.{option_map};
 ghost use Rattle.std.specs.Result.{result_err};
 ghost use Rattle.lookahead.specs.Best.{first_best, cheaper, dearer};
@@ -7,11 +7,12 @@ ghost use Rattle.lookahead.specs.Choices.{pick};
 ghost use Rattle.certificate.specs.Certificates.{Sound};
 ghost use Rattle.certificate.specs.Claims.{Recipe};
 ghost use Rattle.certificate.specs.ExactClaims.{Tightest};
+ghost use Rattle.certificate.specs.Findings.{Accepts};
 ghost use Rattle.certificate.specs.RecipeRefusedAs.{RecipeRefusedAs};
 ghost use Rattle.certificate.specs.Recipes.{Fitting, state_low, policy_gain, policy_fault};
 ghost use Rattle.certificate.specs.Recipes.{recipe_refusal};
 ghost use Rattle.certificate.specs.RefusedAs.{IsRefused};
-ghost use Rattle.certificate.specs.Refusals.{first_fault, number_of, place_of};
+ghost use Rattle.certificate.specs.Refusals.{first_fault};
 
 use crate::check::{level, values_near};
 use crate::refusal::Refusal;
@@ -36,7 +37,7 @@ fn policy_holds<P: Plant>(plant: &P, policy: &[u16]) -> Result<(), Refusal>
     Ok(())
 }
 
-// The least gain of a state, absent where no portfolio is feasible.
+// The smallest gain of a state, absent where no portfolio is feasible.
 fn state_low<P: Plant, T: Tariff>(valued: &ValuedPlant<P, T>, state: usize) -> Option<T::Amount>
     ensures { option_map T.Tariff.row result
         ≡ state_low (P.model valued.now.plant.now) (T.scale valued.now.tariff.now)
@@ -45,7 +46,8 @@ fn state_low<P: Plant, T: Tariff>(valued: &ValuedPlant<P, T>, state: usize) -> O
     valued.least_gain(state).map(|choice| choice.amount)
 }
 
-// The least gain of all, the first by state and then by portfolio.
+// The smallest gain that anything feasible has. Where several pairs have it, the lowest-numbered
+// state stands for them, with its lowest-numbered portfolio.
 fn lowest<P: Plant, T: Tariff>(valued: &ValuedPlant<P, T>) -> Option<Choice<T::Amount>>
     ensures { option_map (pick T.Tariff.row) result
         ≡ first_best (cheaper (T.scale valued.now.tariff.now))
@@ -72,7 +74,8 @@ fn policy_gain<P: Plant, T: Tariff>(
     valued.gain(state, usize::from(portfolio))
 }
 
-// The greatest gain of the policy's portfolios, the first by state.
+// The largest gain that the policy meets. Where it does so in several states, the lowest-numbered
+// stands for them.
 fn highest<P: Plant, T: Tariff>(
     valued: &ValuedPlant<P, T>,
     policy: &[u16],
@@ -107,8 +110,8 @@ fn inputs_hold<P: Plant, T: Tariff>(
     policy_holds(plant, policy)
 }
 
-/// The claims that a value table and a policy allow: the least gain of all feasible portfolios and
-/// the greatest of the policy's.
+/// The claims that a value table and a policy bear: as low the smallest gain that anything feasible
+/// has, in whatever state; as high the largest that the policy itself meets.
 pub fn recipe<P: Plant, T: Tariff>(
     plant: &P,
     tariff: &T,
@@ -121,19 +124,19 @@ pub fn recipe<P: Plant, T: Tariff>(
     // there is a recipe exactly when the tables fit
     ensures exact { IsOk result ↔ Fitting (P.model plant.now) (map T.Tariff.row values.now)
         policy.now }
-    // what is refused is refused by a rule that is broken, at its place
-    ensures refused { IfErr result (λ e.
-        RecipeRefusedAs (P.model plant.now) (T.scale tariff.now) (map T.Tariff.row values.now)
-        policy.now (number_of e) (place_of e)) }
     // refused by a rule at a place exactly when that rule is broken there, and none before it
-    ensures refused_exactly { (n p : ℕ) → IsRefused result n p
+    ensures refused { (n p : ℕ) → IsRefused result n p
         ↔ RecipeRefusedAs (P.model plant.now) (T.scale tariff.now) (map T.Tariff.row values.now)
         policy.now n p }
     // its own claims make a sound certificate
     ensures sound { IfOk result (λ c.
         Sound (P.model plant.now) (T.scale tariff.now) (map T.Tariff.row values.now) policy.now
         (T.Tariff.row c.low) (T.Tariff.row c.high)) }
-    // and of all claims exactly those that are no tighter
+    // and the check accepts it
+    ensures accepted { IfOk result (λ c.
+        Accepts T.Tariff.row (P.model plant.now) (T.scale tariff.now) (map T.Tariff.row values.now)
+        policy.now c.low c.high) }
+    // of all claims exactly those that are no tighter make one
     ensures tightest { IfOk result (λ c.
         Tightest (P.model plant.now) (T.scale tariff.now) (map T.Tariff.row values.now)
         policy.now (T.Tariff.row c.low) (T.Tariff.row c.high)) }

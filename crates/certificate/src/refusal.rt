@@ -1,18 +1,18 @@
 ghost use Rattle.std.specs.Prelude.{◌≡◌};
 ghost use Rattle.certificate.specs.Refusals.{number_of, place_of};
 
-/// Why a certificate is refused, with the place.
+/// Which test a certificate or a recipe failed, and where.
 #[derive(Clone, Copy, PartialEq, Eq, Debug)]
 pub enum Refusal {
-    /// A table's length is not the number of states.
+    /// Values or policy: more or fewer entries than the plant has states.
     WrongLength,
-    /// A value, or a claim at the number of states, is beyond its reach.
+    /// This state's value reaches too far; at the number of states, a claim does.
     BeyondReach(usize),
-    /// The policy's entry is not feasible.
+    /// What the policy names in this state cannot be done there.
     Infeasible(usize),
-    /// Low is not at most the gain of some feasible portfolio.
+    /// Some feasible portfolio of this state gains less than low.
     LowBroken(usize),
-    /// The gain of the policy's portfolio is not at most high.
+    /// In this state the policy's portfolio gains more than high.
     HighBroken(usize),
 }
 

@@ -41,7 +41,7 @@ pub record TwoWindows (m : Model) (t : Scale) : Type 0 where
   pub met : lists m (by_policies planned) 2 [] 0 ≡ (0 ∷ 0 ∷ []) ∷ (0 ∷ 1 ∷ []) ∷ (1 ∷ 0 ∷ []) ∷ (1 ∷ 1 ∷ []) ∷ []
   -- 7.1 × 10^13 for the policy, and so for a new book that is charged what its totals grow by; 7.4 × 10^13 for the rival
   pub policy : costs m t (by_policies planned) 2 0 ≡ thousandths 71000000000000
-  pub book : (b : CostBound m t planned after_two.low after_two.high highest_value lowest_value (fresh 0) 2)
+  pub book : (b : CostBound m t planned (allowance 2 after_two.low after_two.high highest_value lowest_value) (fresh 0) 2)
       → charged m t planned 2 (fresh 0) b.end ≡ thousandths 71000000000000
   pub rival : costs m t skips_once 2 0 ≡ thousandths 74000000000000
   -- −3 × 10^16, which is at most 1.1 × 10^18

@@ -1,7 +1,8 @@
 -- How a book goes through a list window by window, and what a following that ended so says.
-use Rattle.std.proofs.Common.{◌≡◌, ℕ, zero, suc, ◌<◌, ◌↔◌, true, List, [], ◌∷◌, length, take, get_or, Option, Some, sym, refl, ap, ◌∙◌, subst, arith}
+use Rattle.std.proofs.Common.{◌≡◌, ℕ, zero, suc, ◌+◌, ◌<◌, ◌≤◌, ◌↔◌, true, List, [], ◌∷◌, length, take, get_or, Option, Some, sym, refl, ap, ◌∙◌, subst, arith}
 use Rattle.std.specs.Prelude.{IsNone}
 use Rattle.std.proofs.lemmas.Option.{slice_get_within}
+use Rattle.interface.specs.Limits.{most_windows}
 use Rattle.interface.specs.Plants.{Model, Lawful, named, outcomes_of}
 use Rattle.bookkeeping.specs.declared.refusal.Refusal.{Refusal}
 use Rattle.bookkeeping.specs.Books.{Account, Airing, Book, opened, on_air, moved, aired}
@@ -9,9 +10,9 @@ use Rattle.bookkeeping.specs.Calls.{MayIssue, ordered, IssueRefused, full, no_st
 use Rattle.bookkeeping.specs.Pasts.{Event, Past, was_issued, issue_was_refused, was_carried_out, was_reported, report_was_refused}
 use Rattle.bookkeeping.specs.Refusals.{number_of, place_of}
 use Rattle.bookkeeping.proofs.Keeping.{kept}
-use Rattle.following.specs.Promises.{always, GoesThrough}
+use Rattle.following.specs.Promises.{Policies, always, GoesThrough}
 use Rattle.following.specs.Endings.{WentThrough, WindowRefused, not_issued, not_reported, Ends, through, stopped, CanGo, windows, last_calls, calls, Follows}
-use Rattle.following.proofs.Charging.{run, goes}
+use Rattle.following.proofs.Charging.{run, gone, goes}
 
 -- one window more
 pub one_more : (m : Model) (ps : List ℕ) (j : ℕ) (a : Account) (ks : List ℕ) (i : ℕ) (b c : Account) → i < length ks
@@ -39,6 +40,16 @@ goes_at m ps j a (k ∷ ks) z (suc i) b l h g =
     let e : o ≡ p = cc ((h.2).there, (g.2).there) in
     let same : h.1 ≡ g.1 = (h.2).moves ∙ ap (λ q. moved (aired (ordered m a ps)).account q.next) e ∙ sym (g.2).moves in
     goes_at m ps (suc j) g.1 ks z i b (omega arith) (subst (λ y. GoesThrough m (always ps) (suc j) y ks z) same h.3) g.3
+
+-- what goes through had room for each window
+had_room : (m : Model) (ps : Policies) (j : ℕ) (a : Account) (ks : List ℕ) (b : Account) → a.windows ≤ most_windows → GoesThrough m ps j a ks b
+    → a.windows + length ks ≤ most_windows
+had_room m ps j a [] b few h = omega (arith, few)
+had_room m ps j a (k ∷ ks) b few h =
+    let c = h.1 in
+    let more : c.windows ≡ a.windows + 1 = ap (λ z. z.windows) (h.2).moves in
+    let rest = had_room m ps (suc j) c ks b (omega (arith, more, (h.0).room)) h.3 in
+    omega (arith, more, rest)
 
 -- an order that may be issued is not refused, nor a report that is one
 no_order_refused : (m : Model) (a : Account) (ps : List ℕ) (n p : ℕ) → MayIssue m a ps → IssueRefused m a ps n p → ⊥
@@ -68,12 +79,25 @@ module _ (m : Model) (ps : List ℕ) (a : Account) (ks : List ℕ) where
   all_or_not n b o (through h) = (λ e. refl, λ e. refl)
   all_or_not n b o (stopped l h w) = (λ e. let z : ◌≡◌ {A = ℕ} 0 1 = cc in absurd (omega (arith, z)), λ e. absurd (omega (arith, l, e)))
 
-  pub goes_whole : Lawful m → length ps ≡ m.states → ((s : ℕ) → s < m.states → m.feasible s (named ps s) ≡ true) → CanGo m ps a ks
+  goes_whole : Lawful m → length ps ≡ m.states → ((s : ℕ) → s < m.states → m.feasible s (named ps s) ≡ true) → CanGo m ps a ks
       → (n : ℕ) (b : Book) (o : Option Refusal) → Ends m ps a ks n b o → IsNone o
   goes_whole lawful long feasible can n b o (through h) = refl
   goes_whole lawful long feasible can n b o (stopped {b = c} {r = r} l h w) =
       let all = goes m lawful (always ps) (λ j. long) (λ j. feasible) ks [] a can.state can.room can.meets in
       absurd (not_refused m ps c (get_or ks n 0) b r (goes_at m ps 0 a ks (run m (always ps) 0 a ks) n c l all h) w)
+
+  -- and so exactly such a list goes through whole
+  pub whole_exactly : Lawful m → length ps ≡ m.states → ((s : ℕ) → s < m.states → m.feasible s (named ps s) ≡ true) → a.state < m.states → a.windows ≤ most_windows
+      → (n : ℕ) (b : Book) (o : Option Refusal) → Ends m ps a ks n b o → IsNone o ↔ CanGo m ps a ks
+  whole_exactly lawful long feasible inside few n b o ends = (went n b o ends, λ can. goes_whole lawful long feasible can n b o ends)
+    where
+      went : (n : ℕ) (b : Book) (o : Option Refusal) → Ends m ps a ks n b o → IsNone o → CanGo m ps a ks
+      went n b o (through {b = c} h) e = record {
+        state = inside;
+        room = had_room m (always ps) 0 a ks c few h;
+        meets = (gone m lawful (always ps) ks [] a c h).0;
+      }
+      went n b o (stopped l h w) e = let z : ◌≡◌ {A = ℕ} 0 1 = cc in absurd (omega (arith, z))
 
   module _ (lawful : Lawful m) (first : ℕ) where
     windows_past : (j : ℕ) (d : Account) (ls : List ℕ) (b : Account) (es : List Event) → GoesThrough m (always ps) j d ls b → Past first es (opened d)

@@ -1,3 +1,4 @@
 pub mod Rules
 pub mod Promises
 pub mod Endings
+pub mod Refusals

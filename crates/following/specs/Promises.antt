@@ -36,8 +36,8 @@ allowance n low high top bottom = times (whole ^ n) (plus (times n (minus high l
 
 -- What is promised of an open book that follows policies for n windows: each list that can be met takes it to an end, and to one
 -- only; what it is charged is what its policies cost as a rule of play; and against every rule that can play as long from its
--- state, 10,000 × (what the book is charged − what the rule costs), weighed over all lists, is within the allowance.
-pub record CostBound (m : Model) (t : Scale) (ps : Policies) (low high top bottom : Row) (a : Account) (n : ℕ) : Type 0 where
+-- state, 10,000 × (what the book is charged − what the rule costs), weighed over all lists, is at most what is allowed.
+pub record CostBound (m : Model) (t : Scale) (ps : Policies) (allowed : Row) (a : Account) (n : ℕ) : Type 0 where
   pub end : List ℕ → Account
   pub reached : (ks : List ℕ) → Contains (lists m (by_policies ps) n [] a.state) ks → GoesThrough m ps 0 a ks (end ks)
   pub only : (ks : List ℕ) (b : Account) → length ks ≡ n → GoesThrough m ps 0 a ks b
@@ -46,13 +46,13 @@ pub record CostBound (m : Model) (t : Scale) (ps : Policies) (low high top botto
   pub enumerated : Enumerates m (by_policies ps) n a.state
   pub rivals : (r : Rule) → Plays m r n [] a.state → Enumerates m r n a.state
   pub bound : (r : Rule) → Plays m r n [] a.state
-      → AtMost t (times whole (minus (charged m t ps n a end) (costs m t r n a.state))) (allowance n low high top bottom)
+      → AtMost t (times whole (minus (charged m t ps n a end) (costs m t r n a.state))) allowed
 
--- What a certificate promises: so of every open book that stands in a state of the plant, for every number of windows that is left
--- to it.
+-- What a certificate promises: of every open book that stands in a state of the plant, for every number of windows that is left to
+-- it, the allowance bounds the cost.
 abbrev pub Promise : Model → Scale → Policies → Row → Row → Row → Row → Type 0
 Promise m t ps low high top bottom =
-    (a : Account) (n : ℕ) → a.state < m.states → a.windows + n ≤ most_windows → CostBound m t ps low high top bottom a n
+    (a : Account) (n : ℕ) → a.state < m.states → a.windows + n ≤ most_windows → CostBound m t ps (allowance n low high top bottom) a n
 
 -- The same policy in every window.
 abbrev pub always : List ℕ → Policies

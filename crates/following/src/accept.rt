@@ -1,5 +1,5 @@
 // The check of a certificate that is to be followed.
-ghost use Rattle.std.specs.Prelude.{◌↔◌, ℕ, map, IsOk, IfOk, IfErr};
+ghost use Rattle.std.specs.Prelude.{◌↔◌, ℕ, map, IsOk, IfOk};
 ghost use Rattle.certificate.specs.Certificates.{Sound};
 ghost use Rattle.certificate.specs.Findings.{Verdict};
 ghost use Rattle.certificate.specs.RefusedAs.{RefusedAs, IsRefused};
@@ -28,7 +28,7 @@ pub fn accept<P: Plant, T: Tariff>(
         ↔ Sound (P.model plant.now) (T.scale tariff.now) (map T.Tariff.row values.now) policy.now
         (T.Tariff.row claims.low) (T.Tariff.row claims.high) }
     // refused by a rule at a place exactly when that rule is broken there, and none before it
-    ensures refused_exactly { (n p : ℕ) → IsRefused result n p
+    ensures refused { (n p : ℕ) → IsRefused result n p
         ↔ RefusedAs (P.model plant.now) (T.scale tariff.now) (map T.Tariff.row values.now)
         policy.now (T.Tariff.row claims.low) (T.Tariff.row claims.high) n p }
     // accepted, it bounds the cost of every book that follows it

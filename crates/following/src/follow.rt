@@ -1,12 +1,13 @@
 // Following a certificate with a book.
-ghost use Rattle.std.specs.Prelude.{◌≡◌, ◌↔◌, ℕ, map, length, IsOk, IfOk, IfErr, IsNone};
+ghost use Rattle.std.specs.Prelude.{◌≡◌, ◌↔◌, ℕ, ◌<◌, ◌≤◌, map, length, IsOk, IfOk, IfErr, IsNone};
+ghost use Rattle.interface.specs.Limits.{most_windows};
 ghost use Rattle.bookkeeping.specs.Standings.{book_of};
 ghost use Rattle.certificate.specs.Certificates.{Sound};
 ghost use Rattle.certificate.specs.Findings.{Finds};
 ghost use Rattle.certificate.specs.RefusedAs.{RefusedAs};
-ghost use Rattle.certificate.specs.Refusals.{number_of, place_of};
 ghost use Rattle.following.specs.Endings.{WentThrough, WindowRefused, Ends, CanGo, Follows};
 ghost use Rattle.following.specs.Promises.{Promised};
+ghost use Rattle.following.specs.Refusals.{IsUnfollowed};
 
 use crate::accept::accept;
 use bookkeeping::book::Open;
@@ -113,12 +114,13 @@ pub fn follow<P: Plant, T: Tariff>(
     ensures exact { IsOk result
         ↔ Sound (P.model plant.now) (T.scale tariff.now) (map T.Tariff.row values.now) policy.now
         (T.Tariff.row claims.low) (T.Tariff.row claims.high) }
-    // else the very same book comes back, and why the certificate is refused
+    // else the very same book comes back
     ensures kept { IfErr result (λ u. u.book ≡ book) }
-    ensures refused { IfErr result (λ u.
-        RefusedAs (P.model plant.now) (T.scale tariff.now) (map T.Tariff.row values.now)
-        policy.now (T.Tariff.row claims.low) (T.Tariff.row claims.high)
-        (number_of u.why) (place_of u.why)) }
+    // not followed for a rule at a place exactly when that rule is broken there, and none before it
+    ensures refused { (n p : ℕ) → IsUnfollowed result n p
+        ↔ RefusedAs (P.model plant.now) (T.scale tariff.now) (map T.Tariff.row values.now)
+        policy.now (T.Tariff.row claims.low) (T.Tariff.row claims.high) n p }
+    // what is followed is followed with its finding
     ensures finding { IfOk result (λ f.
         Finds T.Tariff.row (P.model plant.now) (T.scale tariff.now) (map T.Tariff.row values.now)
         claims.low claims.high f.finding) }
@@ -131,9 +133,11 @@ pub fn follow<P: Plant, T: Tariff>(
         f.windows (book_of f.book) f.refused) }
     // nothing is refused exactly when all outcomes went through
     ensures all { IfOk result (λ f. IsNone f.refused ↔ (f.windows ≡ length outcomes.now)) }
-    // a list that the book can meet, with room for it, goes through whole
-    ensures whole { CanGo (P.model plant.now) policy.now book outcomes.now
-        → IfOk result (λ f. IsNone f.refused) }
+    // of a book that stands in a state of the plant, with no more windows than a book may have,
+    // nothing is refused exactly when it can meet the list, with room for it
+    ensures whole { IfOk result (λ f.
+        book.state < (P.model plant.now).states → book.windows ≤ most_windows
+        → IsNone f.refused ↔ CanGo (P.model plant.now) policy.now book outcomes.now) }
     // each past of the book goes on by the calls of these windows
     ensures past { IfOk result (λ f.
         Follows (P.model plant.now) policy.now book outcomes.now

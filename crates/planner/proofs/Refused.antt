@@ -19,7 +19,7 @@ module _ {A : Type 0} (row : A → Row) (m : Model) (t : Scale) (n : ℕ) (b b' 
   only_of (Err WrongLength) h = tt
   only_of (Err (BeyondReach s)) h = λ vs swept. let halted = h.2 in stuck_never m t halted.whole n (map row b'.values) vs s halted.swept halted.stuck halted.fewer swept
 
-  pub reason_of : (r : Result (Claims A) Refusal) → Answer row m t n b b' r → IfErr r (λ e. RefusedAs m t n b (number_of e) (place_of e))
+  reason_of : (r : Result (Claims A) Refusal) → Answer row m t n b b' r → IfErr r (λ e. RefusedAs m t n b (number_of e) (place_of e))
   reason_of (Ok c) h = tt
   reason_of (Err TooManySweeps) h = by_sweeps h.0
   reason_of (Err WrongLength) h = by_length h.0 h.1

@@ -6,8 +6,7 @@ use Rattle.interface.specs.Tariffs.{Scale}
 use Rattle.certificate.specs.Recipes.{Lowest, Highest}
 use Rattle.planner.specs.Sweeps.{Swept, Chooses}
 
--- The plan after so many sweeps: the values they lead to, the policy chosen by these, and as claims the least gain of all and the
--- greatest of the policy's.
+-- The plan after so many sweeps: the values that these end with, what they make the policy choose, and the two claims by the recipe.
 pub record PlanAfter (m : Model) (t : Scale) (sweeps : ℕ) (vs : List Row) (ps : List ℕ) (low high : Row) : Type 0 where
   pub swept : Swept m t sweeps vs
   pub chosen : Chooses m t vs ps

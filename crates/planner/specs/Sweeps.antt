@@ -57,7 +57,7 @@ pub record Stuck (m : Model) (t : Scale) (vs : List Row) (s : ℕ) : Type 0 wher
   pub far : most_value < reach value
   pub first : (k : ℕ) → k < s → (w : Row) × NewValue m t vs k w × (reach w ≤ most_value)
 
--- In each state the policy names a portfolio of least look-ahead, of several the one with the lowest number.
+-- The policy names for each state what looks cheapest there under these values: among equal portfolios the lowest-numbered.
 pub record Chooses (m : Model) (t : Scale) (vs : List Row) (ps : List ℕ) : Type 0 where
   pub long : length ps ≡ m.states
   pub each : (s : ℕ) → s < m.states → (u : Row) × LeastAhead m t vs s (named ps s) u

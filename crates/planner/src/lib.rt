@@ -1,4 +1,4 @@
-// The planner: sweeps over a value table, then a policy and its claims.
+//! The planner: sweeps over a value table, then a policy and its claims.
 #![tactic(auto)]
 
 pub mod plan;

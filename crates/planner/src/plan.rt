@@ -1,10 +1,10 @@
 // The planner.
-ghost use Rattle.std.specs.Prelude.{◌≡◌, ◌↔◌, ℕ, map, IfOk, IfErr};
+ghost use Rattle.std.specs.Prelude.{◌≡◌, ◌↔◌, ℕ, map, IfOk};
 ghost use Rattle.certificate.specs.Certificates.{Sound};
 ghost use Rattle.certificate.specs.ExactClaims.{Tightest};
+ghost use Rattle.certificate.specs.Findings.{Accepts};
 ghost use Rattle.planner.specs.Answers.{Answer, Only};
 ghost use Rattle.planner.specs.RefusedAs.{RefusedAs, IsRefused};
-ghost use Rattle.planner.specs.Refusals.{number_of, place_of};
 
 use crate::refusal::Refusal;
 use crate::sweep;
@@ -34,20 +34,19 @@ pub fn plan<P: Plant, T: Tariff>(
     // no other table comes of so many sweeps, and none at all where a value would be beyond reach
     ensures only { Only T.Tariff.row (P.model plant.now) (T.scale tariff.now) sweeps
         (record { values = values.new; working = working.new; policy = policy.new }) result }
-    // what is refused is refused by a rule that is broken, at its place
-    ensures refused { IfErr result (λ e.
-        RefusedAs (P.model plant.now) (T.scale tariff.now) sweeps
-        (record { values = values.old; working = working.old; policy = policy.old })
-        (number_of e) (place_of e)) }
     // refused by a rule at a place exactly when that rule is broken there
-    ensures refused_exactly { (n p : ℕ) → IsRefused result n p
+    ensures refused { (n p : ℕ) → IsRefused result n p
         ↔ RefusedAs (P.model plant.now) (T.scale tariff.now) sweeps
         (record { values = values.old; working = working.old; policy = policy.old }) n p }
     // the plan is a sound certificate
     ensures sound { IfOk result (λ c.
         Sound (P.model plant.now) (T.scale tariff.now) (map T.Tariff.row values.new) policy.new
         (T.Tariff.row c.low) (T.Tariff.row c.high)) }
-    // and no tighter claims of its values and policy are
+    // and the check accepts it
+    ensures accepted { IfOk result (λ c.
+        Accepts T.Tariff.row (P.model plant.now) (T.scale tariff.now) (map T.Tariff.row values.new)
+        policy.new c.low c.high) }
+    // no tighter claims of its values and policy make one
     ensures tightest { IfOk result (λ c.
         Tightest (P.model plant.now) (T.scale tariff.now) (map T.Tariff.row values.new) policy.new
         (T.Tariff.row c.low) (T.Tariff.row c.high)) }

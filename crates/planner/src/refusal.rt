@@ -1,14 +1,14 @@
 ghost use Rattle.std.specs.Prelude.{◌≡◌};
 ghost use Rattle.planner.specs.Refusals.{number_of, place_of};
 
-/// Why there is no plan, with the place.
+/// What kept the planner from a plan, and where.
 #[derive(Clone, Copy, PartialEq, Eq, Debug)]
 pub enum Refusal {
-    /// More sweeps than MOST_SWEEPS.
+    /// The number of sweeps asked for is above MOST_SWEEPS.
     TooManySweeps,
-    /// A table's length is not the number of states.
+    /// Values, working table or policy: more or fewer entries than the plant has states.
     WrongLength,
-    /// A sweep would leave the value of this state beyond its reach.
+    /// By some sweep this state, and none before it, would get a value that reaches too far.
     BeyondReach(usize),
 }
 

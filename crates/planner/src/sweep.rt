@@ -74,7 +74,7 @@ fn sweep_into<P: Plant, T: Tariff>(
     Ok(())
 }
 
-// All sweeps of a table of zero rows, up to the first that would leave a value beyond reach.
+// Sweep after sweep from zero rows, for as long as every value stays within reach.
 pub(crate) fn sweep_all<P: Plant, T: Tariff>(
     plant: &P,
     tariff: &T,
@@ -103,8 +103,8 @@ pub(crate) fn sweep_all<P: Plant, T: Tariff>(
     Ok(())
 }
 
-// Writes the policy: in each state a portfolio of least look-ahead, of several the one with the
-// lowest number.
+// Names for each state a portfolio that looks cheapest under these values. Among equals the policy
+// takes the lowest number.
 pub(crate) fn choose<P: Plant, T: Tariff>(valued: &ValuedPlant<P, T>, policy: &mut [u16])
     requires { length policy.old ≡ (P.model valued.now.plant.now).states }
     ensures { Chooses (P.model valued.now.plant.now) (T.scale valued.now.tariff.now)

@@ -14,7 +14,7 @@ use Rattle.certificate.specs.declared.refusal.Refusal.{Refusal}
 use Rattle.certificate.proofs.Extremes.{extreme_absent, extreme_there}
 use Rattle.certificate.proofs.Faults.{some_unless}
 use Rattle.certificate.proofs.Soundness.{sound_from}
-use Rattle.certificate.proofs.Verdicts.{exact_from, refused_from, reason_of, loose_from}
+use Rattle.certificate.proofs.Verdicts.{exact_from, refused_from, loose_from}
 use Rattle.certificate.proofs.check.check.Goals as goal
 
 pub returns-in_err-certificate_holds : goal.returns-in_err-certificate_holds
@@ -36,8 +36,7 @@ returns-in_err-certificate_holds g c =
     record {
       verdict = verdict;
       exact = exact_from row m lawful t vs ps low high c.from_residual.result verdict;
-      refused = reason_of row m lawful t vs ps low high c.from_residual.result verdict;
-      refused_exactly = refused_from row m lawful t vs ps low high c.from_residual.result verdict;
+      refused = refused_from row m lawful t vs ps low high c.from_residual.result verdict;
       no_tighter = λ l h ready lowest highest near.
           loose_from row m lawful t vs ps low high scaled (fits_map row t.places fits xs) c.from_residual.result verdict (record { low_fits = fits low; high_fits = fits high; near = near }) ready l h lowest highest;
     }
@@ -113,8 +112,7 @@ returns g c =
     record {
       verdict = verdict;
       exact = exact_from row m lawful t vs ps low high r verdict;
-      refused = tt;
-      refused_exactly = refused_from row m lawful t vs ps low high r verdict;
+      refused = refused_from row m lawful t vs ps low high r verdict;
       no_tighter = λ l h ready lowest highest near.
           loose_from row m lawful t vs ps low high scaled (fits_map row t.places fits xs) r verdict (record { low_fits = fits low; high_fits = fits high; near = near }) ready l h lowest highest;
     }

@@ -12,7 +12,7 @@ use Rattle.certificate.specs.declared.refusal.Refusal.{Refusal}
 use Rattle.certificate.proofs.Claiming.{lowest_absent, lowest_there, highest_absent, highest_there}
 use Rattle.certificate.proofs.Faults.{some_unless}
 use Rattle.certificate.proofs.Refused.{fitting_from}
-use Rattle.certificate.proofs.Verdicts.{fitting_exact, recipe_refused_from, recipe_reason_of, recipe_sound, recipe_tightest}
+use Rattle.certificate.proofs.Verdicts.{fitting_exact, recipe_refused_from, recipe_sound, recipe_accepted, recipe_tightest}
 use Rattle.certificate.proofs.recipe.recipe.Goals as goal
 
 pub invariant_of-valued : goal.invariant_of-valued
@@ -41,9 +41,9 @@ returns-in_err-inputs_hold g c =
     record {
       answer = answer;
       exact = fitting_exact row m t xs ps r answer;
-      refused = recipe_reason_of row m t xs ps r answer;
-      refused_exactly = recipe_refused_from row m t xs ps r answer;
+      refused = recipe_refused_from row m t xs ps r answer;
       sound = recipe_sound row m t xs ps lawful scaled fit r answer;
+      accepted = recipe_accepted row m t xs ps lawful scaled fit r answer;
       tightest = recipe_tightest row m t xs ps lawful scaled fit r answer;
     }
 
@@ -108,8 +108,8 @@ returns g c =
     record {
       answer = answer;
       exact = fitting_exact row m t xs ps r answer;
-      refused = tt;
-      refused_exactly = recipe_refused_from row m t xs ps r answer;
+      refused = recipe_refused_from row m t xs ps r answer;
       sound = recipe_sound row m t xs ps lawful scaled fit r answer;
+      accepted = recipe_accepted row m t xs ps lawful scaled fit r answer;
       tightest = recipe_tightest row m t xs ps lawful scaled fit r answer;
     }

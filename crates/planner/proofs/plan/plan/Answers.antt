@@ -6,13 +6,14 @@ use Rattle.lookahead.specs.Gains.{Within, look_ahead}
 use Rattle.certificate.specs.Certificates.{Sound}
 use Rattle.certificate.specs.Claims.{Recipe}
 use Rattle.certificate.specs.ExactClaims.{Tightest}
+use Rattle.certificate.specs.Findings.{Accepts}
 use Rattle.certificate.specs.Recipes.{Fitting}
 use Rattle.certificate.proofs.Claiming.{feasible_of}
 use Rattle.planner.specs.Answers.{Tables, Answer}
 use Rattle.planner.specs.Sweeps.{Chooses}
 use Rattle.planner.specs.declared.refusal.Refusal.{Refusal}
 use Rattle.planner.specs.declared.refusal.Refusal.TheVariants.{TooManySweeps, WrongLength}
-use Rattle.planner.proofs.Refused.{only_of, reason_of, refused_from}
+use Rattle.planner.proofs.Refused.{only_of, refused_from}
 use Rattle.planner.proofs.Sweeping.{swept_within}
 use Rattle.planner.proofs.plan.plan.Goals as goal
 
@@ -24,30 +25,10 @@ returns-then-sweeps-gt-MOST_SWEEPS-clause-refused g c =
     let b : Tables g.row.T-Amount.Denot = record { values = c.args.values.now; working = c.args.working.now; policy = c.args.policy.now } in
     let r : Result (Claims g.row.T-Amount.Denot) Refusal = Err TooManySweeps in
     let answer : Answer row m t c.args.sweeps b b r = (omega arith, refl) in
-    reason_of row m t c.args.sweeps b b r answer
-
-pub returns-then-sweeps-gt-MOST_SWEEPS-clause-refused_exactly : goal.returns-then-sweeps-gt-MOST_SWEEPS-clause-refused_exactly
-returns-then-sweeps-gt-MOST_SWEEPS-clause-refused_exactly g c =
-    let row = g.T.Tariff.row in
-    let m = g.P.Plant.model c.args.plant.now in
-    let t = g.T.Tariff.scale c.args.tariff.now in
-    let b : Tables g.row.T-Amount.Denot = record { values = c.args.values.now; working = c.args.working.now; policy = c.args.policy.now } in
-    let r : Result (Claims g.row.T-Amount.Denot) Refusal = Err TooManySweeps in
-    let answer : Answer row m t c.args.sweeps b b r = (omega arith, refl) in
     refused_from row m t c.args.sweeps b b r answer
 
 pub returns-then-values-states-clause-refused : goal.returns-then-values-states-clause-refused
 returns-then-values-states-clause-refused g c =
-    let row = g.T.Tariff.row in
-    let m = g.P.Plant.model c.args.plant.now in
-    let t = g.T.Tariff.scale c.args.tariff.now in
-    let b : Tables g.row.T-Amount.Denot = record { values = c.args.values.now; working = c.args.working.now; policy = c.args.policy.now } in
-    let r : Result (Claims g.row.T-Amount.Denot) Refusal = Err WrongLength in
-    let answer : Answer row m t c.args.sweeps b b r = search rules in
-    reason_of row m t c.args.sweeps b b r answer
-
-pub returns-then-values-states-clause-refused_exactly : goal.returns-then-values-states-clause-refused_exactly
-returns-then-values-states-clause-refused_exactly g c =
     let row = g.T.Tariff.row in
     let m = g.P.Plant.model c.args.plant.now in
     let t = g.T.Tariff.scale c.args.tariff.now in
@@ -68,9 +49,9 @@ returns-in_err-swept g c =
     record {
       answer = answer;
       only = only_of row m t c.args.sweeps b b' r answer;
-      refused = reason_of row m t c.args.sweeps b b' r answer;
-      refused_exactly = refused_from row m t c.args.sweeps b b' r answer;
+      refused = refused_from row m t c.args.sweeps b b' r answer;
       sound = search rules;
+      accepted = search rules;
       tightest = search rules;
     }
 
@@ -118,8 +99,8 @@ returns g c =
     record {
       answer = answer;
       only = only_of row m t c.args.sweeps b b' r answer;
-      refused = tt;
-      refused_exactly = refused_from row m t c.args.sweeps b b' r answer;
+      refused = refused_from row m t c.args.sweeps b b' r answer;
       sound = subst (λ z. IfOk z (λ k. Sound m t vs b'.policy (row k.low) (row k.high))) c.unwrap.ensures c.recipe.ensures.sound;
+      accepted = subst (λ z. IfOk z (λ k. Accepts row m t vs b'.policy k.low k.high)) c.unwrap.ensures c.recipe.ensures.accepted;
       tightest = subst (λ z. IfOk z (λ k. Tightest m t vs b'.policy (row k.low) (row k.high))) c.unwrap.ensures c.recipe.ensures.tightest;
     }
