@@ -17,7 +17,7 @@ use Rattle.chain.specs.LawsLemmas.{chain_lawful}
 use Rattle.chain.specs.Parts.{arcs_of}
 use Rattle.tariffs.specs.OrdersLemmas.{first_total, first_trans, first_shift}
 use Rattle.workorder.specs.Orders.{LeastTable}
-use Rattle.bookkeeping.specs.Books.{Account, opened, fresh, moved, aired}
+use Rattle.bookkeeping.specs.Books.{Account, Airing, opened, fresh, moved, aired}
 use Rattle.bookkeeping.specs.Calls.{MayIssue, ordered, full, no_state, wrong_length, infeasible, Reported, not_allowed, no_outcome}
 use Rattle.bookkeeping.specs.Pasts.{Event, Past, made, was_issued, issue_was_refused, was_carried_out, was_reported, report_was_refused}
 use Rattle.bookkeeping.proofs.Keeping.{kept}
@@ -25,10 +25,11 @@ use Rattle.following.specs.Rules.{Plays, lists, weight, cost, costs}
 use Rattle.following.specs.Promises.{by_policies, Promise}
 use Rattle.following.proofs.Promising.{promise}
 use Rattle.figures.proofs.LoneChain.{made as lone_made, table_shape}
-use Rattle.figures.proofs.OnePart.{plant, scale, each_state, sound_twice}
-use Rattle.figures.specs.OnePart.{lone_chain, lone_plant, thousandths, after_two}
+use Rattle.figures.proofs.OnePart.{plant, scale, each_state, sound_once, sound_twice}
+use Rattle.figures.specs.OnePart.{lone_chain, lone_plant, thousandths, after_one, after_two}
 use Rattle.figures.specs.Pasts.{still, Refusals, Full, PastFigures}
-use Rattle.figures.specs.TwoWindows.{skips_once, planned, highest_value, lowest_value, TwoWindows, BoundFigures}
+use Rattle.figures.specs.TwoWindows.{skips_once, planned, TwoWindows, BoundFigures}
+use Rattle.figures.specs.TwoWindows.{highest_value, higher_value, lowest_value}
 
 -- the plants and the tariff keep their laws
 lone_lawful : (table : List (Option ℕ)) → LeastTable (arcs_of lone_chain) table → Lawful (lone_plant table)
@@ -73,6 +74,13 @@ one_place (x ∷ xs) (suc k) u e = one_place xs k u e
 abbrev values : List ℕ
 values = 0 ∷ 1100000 ∷ 0 ∷ 1100000 ∷ []
 
+abbrev values_of_one : List ℕ
+values_of_one = 0 ∷ 1400000 ∷ 300000 ∷ 1400000 ∷ []
+
+each_of_one_fits : EachFit 1 after_one.values
+each_of_one_fits = each_state (λ s. length (get_or after_one.values s (zeros 1)) ≡ 1)
+    refl refl refl refl
+
 each_fits : EachFit 1 after_two.values
 each_fits = each_state (λ s. length (get_or after_two.values s (zeros 1)) ≡ 1) refl refl refl refl
 
@@ -91,6 +99,27 @@ module _ (rest : List (Option ℕ)) (lawful : Lawful (plant rest)) where
   promised = promise m lawful scale scale_lawful after_two.values each_fits planned after_two.low after_two.high highest_value lowest_value refl refl
       (λ j. sound_twice rest) top bottom
 
+  -- the same after one sweep
+  top_of_one : Top m scale after_one.values higher_value
+  top_of_one = (
+    1,
+    aim_law Greatest scale scale_lawful (slice_get after_one.values)
+        (one_place values_of_one) 4,
+  )
+
+  bottom_of_one : Bottom m scale after_one.values lowest_value
+  bottom_of_one = (
+    0,
+    aim_law Least scale scale_lawful (slice_get after_one.values)
+        (one_place values_of_one) 4,
+  )
+
+  promised_of_one : Promise m scale planned after_one.low after_one.high higher_value lowest_value
+  promised_of_one =
+      promise m lawful scale scale_lawful after_one.values each_of_one_fits
+      planned after_one.low after_one.high higher_value lowest_value refl refl
+      (λ j. sound_once rest) top_of_one bottom_of_one
+
   -- after the first window the rival renews
   plays : Plays m skips_once 2 [] 0
   unfolding Plays
@@ -104,6 +133,14 @@ module _ (rest : List (Option ℕ)) (lawful : Lawful (plant rest)) where
   met : lists m (by_policies planned) 2 [] 0 ≡ (0 ∷ 0 ∷ []) ∷ (0 ∷ 1 ∷ []) ∷ (1 ∷ 0 ∷ []) ∷ (1 ∷ 1 ∷ []) ∷ []
   unfolding lists
   met = refl
+
+  one_policy_costs : costs m scale (by_policies planned) 1 0 ≡ thousandths 3000000000
+  unfolding lists weight cost
+  one_policy_costs = refl
+
+  one_rival_costs : costs m scale skips_once 1 0 ≡ thousandths 0
+  unfolding lists weight cost
+  one_rival_costs = refl
 
   policy_costs : costs m scale (by_policies planned) 2 0 ≡ thousandths 71000000000000
   unfolding lists weight cost
@@ -121,14 +158,20 @@ module _ (rest : List (Option ℕ)) (lawful : Lawful (plant rest)) where
     plays = plays;
     differs = λ e. omega (arith, e);
     met = met;
+    one_policy = one_policy_costs;
+    one_rival = one_rival_costs;
     policy = policy_costs;
     book = λ b. b.as_rule ∙ policy_costs;
     rival = rival_costs;
     left = refl;
     right = refl;
+    top_of_one = top_of_one;
+    bottom_of_one = bottom_of_one;
+    promise_of_one = promised_of_one;
+    right_of_one = refl;
   }
 
-  -- an open book in state 0 with a window left may take the plan's order, and outcome 0 leads back there
+  -- an open book in state 0 with a window left may take the plan's order
   may_order : (a : Account) → a.state ≡ 0 → a.windows < most_windows → MayIssue m a after_two.policy
   may_order a at room = record {
     room = room;
@@ -137,56 +180,97 @@ module _ (rest : List (Option ℕ)) (lawful : Lawful (plant rest)) where
     feasible = subst (λ s. m.feasible s (named after_two.policy s) ≡ true) (sym at) refl;
   }
 
-  back : (a : Account) → a.state ≡ 0 → Reported m (aired (ordered m a after_two.policy)) 0 (moved (aired (ordered m a after_two.policy)).account 0)
-  back a at = record {
-    outcome = record { next = 0; weight = 9000 };
-    there = subst (λ s. slice_get (outcomes_of m s (named after_two.policy s)) 0 ≡ Some (record { next = 0; weight = 9000 })) (sym at) refl;
+  abbrev out_of : Account → Airing
+  out_of a = aired (ordered m a after_two.policy)
+
+  -- of what was carried out in state 0, outcome k leads to this state
+  abbrev Leads : (k next weight : ℕ) → ℕ → Type 0
+  Leads k next weight s =
+      slice_get (outcomes_of m s (named after_two.policy s)) k
+      ≡ Some (record { next = next; weight = weight })
+
+  leads : (k next weight : ℕ) → Leads k next weight 0 → (a : Account) → a.state ≡ 0
+      → Reported m (out_of a) k (moved (out_of a).account next)
+  leads k next weight there a at = record {
+    outcome = record { next = next; weight = weight };
+    there = subst (Leads k next weight) (sym at) there;
     moves = refl;
   }
 
-  -- so many windows may lie behind it
-  record Ran (n : ℕ) : Type 0 where
+  -- so many windows lie behind it, and it stands in this state
+  record Ran (n s : ℕ) : Type 0 where
     events : List Event
     account : Account
     past : Past 0 events (opened account)
-    at : account.state ≡ 0
+    at : account.state ≡ s
     count : account.windows ≡ n
 
-  ran : (n : ℕ) → n ≤ most_windows → Ran n
-  ran zero few = record { events = []; account = fresh 0; past = made m lawful (lit≤ tt); at = refl; count = refl }
-  ran (suc n) few =
-      let so_far = ran n (omega arith) in
+  one_more : (n k next weight : ℕ) → Leads k next weight 0 → n < most_windows → Ran n 0
+      → Ran (suc n) next
+  one_more n k next weight there few so_far =
       let a = so_far.account in
-      let ordered_so = was_issued m after_two.policy so_far.past lawful (may_order a so_far.at (omega (arith, so_far.count))) in
+      let may = may_order a so_far.at (omega (arith, so_far.count)) in
+      let out = was_issued m after_two.policy so_far.past lawful may in
       record {
         events = _;
         account = _;
-        past = was_reported m 0 _ (was_carried_out ordered_so) lawful (back a so_far.at);
+        past = was_reported m k _ (was_carried_out out) lawful
+            (leads k next weight there a so_far.at);
         at = refl;
         count = omega (arith, so_far.count);
       }
 
+  -- outcome 0 leads back to state 0
+  ran : (n : ℕ) → n ≤ most_windows → Ran n 0
+  ran zero few = record {
+    events = [];
+    account = fresh 0;
+    past = made m lawful (lit≤ tt);
+    at = refl;
+    count = refl;
+  }
+  ran (suc n) few = one_more n 0 0 9000 refl few (ran n (omega arith))
+
+  last_window : Ran most_windows 1
+  last_window = one_more 999999 1 1 1000 refl (lit≤ tt) (ran 999999 (lit≤ tt))
+
   full_book : Full m
   full_book =
-      let whole_book = ran most_windows (omega arith) in
+      let all = last_window in
       record {
-        earlier = whole_book.events;
-        windows = sym (kept 0 whole_book.events (opened whole_book.account) whole_book.past).windows ∙ whole_book.count;
-        book = opened whole_book.account;
-        past = issue_was_refused m after_two.policy 24 0 whole_book.past lawful (full (omega (arith, whole_book.count)));
+        earlier = all.events;
+        windows = sym (kept 0 all.events (opened all.account) all.past).windows ∙ all.count;
+        account = all.account;
+        stands = all.at;
+        booked = all.count;
+        past = issue_was_refused still [] 24 0 all.past still_lawful
+            (full (omega (arith, all.count)));
       }
 
   through_refusals : Refusals m
   through_refusals =
-      let begun = made m lawful (lit≤ tt) in
-      let no_entry = issue_was_refused m [] 7 0 begun lawful (wrong_length (lit≤ tt) (lit≤ tt) (λ e. omega (arith, e))) in
-      let no_portfolio = issue_was_refused m (5 ∷ 5 ∷ 5 ∷ 5 ∷ []) 22 0 no_entry lawful (infeasible (lit≤ tt) (lit≤ tt) refl refl) in
-      let out = was_issued m after_two.policy no_portfolio lawful (may_order (fresh 0) refl (lit≤ tt)) in
+      let begun : Past 0 [] (opened (fresh 0)) = made m lawful (lit≤ tt) in
+      let one_entry = issue_was_refused m (5 ∷ []) 7 0 begun lawful
+      (wrong_length (lit≤ tt) (lit≤ tt) (λ e. omega (arith, e))) in
+      let no_portfolio = issue_was_refused m (5 ∷ 5 ∷ 5 ∷ 5 ∷ []) 22 0 one_entry lawful
+      (infeasible (lit≤ tt) (lit≤ tt) refl refl) in
+      let out = was_issued m after_two.policy no_portfolio lawful
+      (may_order (fresh 0) refl (lit≤ tt)) in
       let aired_so = was_carried_out out in
       let no_outcome_2 = report_was_refused m 2 23 2 aired_so lawful (no_outcome refl (lit≤ tt)) in
-      let not_still = report_was_refused still 1 21 0 no_outcome_2 still_lawful (not_allowed refl) in
-      let failed = was_reported m 1 _ not_still lawful (record { outcome = record { next = 1; weight = 1000 }; there = refl; moves = refl }) in
-      record { events = _; book = _; past = issue_was_refused still (0 ∷ []) 21 1 failed still_lawful (no_state (lit≤ tt) (lit≤ tt)); asked = refl; told = refl }
+      let not_still = report_was_refused still 9 21 0 no_outcome_2 still_lawful
+      (not_allowed refl) in
+      let failed = was_reported m 1 _ not_still lawful
+      (leads 1 1 1000 refl (fresh 0) refl) in
+      record {
+        events = _;
+        book = _;
+        past = issue_was_refused still [] 21 1 failed still_lawful
+            (no_state (lit≤ tt) (lit≤ tt));
+        asked = refl;
+        told = refl;
+        ends = refl;
+      }
 
 pub bound_figures : BoundFigures
 bound_figures table right =

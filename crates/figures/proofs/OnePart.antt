@@ -163,6 +163,18 @@ module _ (rest : List (Option ℕ)) where
   }
 
   -- low is the least gain of all and high the greatest of the policy's, so both claims hold
+  pub sound_once : Sound plant scale after_one.values after_one.policy after_one.low after_one.high
+  sound_once = record {
+    values = swept_within plant scale swept_once;
+    policy = refl;
+    low_near = lit≤ tt;
+    high_near = lit≤ tt;
+    feasible = each_state (λ s. plant.feasible s (named after_one.policy s) ≡ true)
+        refl refl refl refl;
+    low_holds = plan_once.lowest.least;
+    high_holds = plan_once.highest.greatest;
+  }
+
   pub sound_twice : Sound plant scale after_two.values after_two.policy after_two.low after_two.high
   sound_twice = record {
     values = swept_within plant scale swept_twice;

@@ -1,8 +1,8 @@
 -- The one-part chain of the worked figures, and the plans that sweeps lead to on it under the priced tariff.
-use Rattle.std.specs.Prelude.{◌≡◌, ℕ, List, [], ◌∷◌, map, replicate, pos, Option}
+use Rattle.std.specs.Prelude.{◌≡◌, ℕ, List, [], ◌∷◌, map, replicate, pos, Option, ◌-◌}
 use Rattle.certificate.specs.Certificates.{Sound}
 use Rattle.chain.specs.Chains.{chain_model}
-use Rattle.chain.specs.Limits.{most_life}
+use Rattle.chain.specs.Limits.{most_life, most_arcs}
 use Rattle.chain.specs.Made.{Made}
 use Rattle.chain.specs.Parts.{arcs_of}
 use Rattle.chain.specs.declared.numbers.ChainNumbers.{ChainNumbers}
@@ -13,11 +13,16 @@ use Rattle.interface.specs.Tariffs.{Scale}
 use Rattle.planner.specs.Plans.{PlanAfter}
 use Rattle.tariffs.specs.Priced.{priced_scale}
 use Rattle.workorder.specs.Figures.{arc}
-use Rattle.workorder.specs.Orders.{LeastTable}
+use Rattle.workorder.specs.Orders.{LeastTable, max_parts}
 
 -- A part with life 2, which fails with 1000 when new and with 4000 at age 1.
 abbrev pub lone_part : Part
-lone_part = record { life = 2; hazards = 1000 ∷ 4000 ∷ replicate 18 0; surplus = 500; dark = 60 }
+lone_part = record {
+  life = 2;
+  hazards = 1000 ∷ 4000 ∷ replicate (most_life - 2) 0;
+  surplus = 500;
+  dark = 60;
+}
 
 -- What stands where there is no part.
 abbrev pub no_part : Part
@@ -30,9 +35,9 @@ lone_chain = record {
   threshold = 5000;
   setup = 100;
   alarm = 0;
-  parts = lone_part ∷ replicate 5 no_part;
+  parts = lone_part ∷ replicate (max_parts - 1) no_part;
   arc_count = 1;
-  arcs = arc 0 1 200 ∷ replicate 41 (arc 0 0 0);
+  arcs = arc 0 1 200 ∷ replicate (most_arcs - 1) (arc 0 0 0);
 }
 
 -- The chain as a plant, by a table of least work orders.

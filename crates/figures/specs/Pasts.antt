@@ -5,7 +5,7 @@ use Rattle.interface.specs.Limits.{most_windows, whole}
 use Rattle.chain.specs.Parts.{arcs_of}
 use Rattle.workorder.specs.Orders.{LeastTable}
 use Rattle.bookkeeping.specs.declared.stage.Stage.TheVariants.{Open, Issued, OnAir}
-use Rattle.bookkeeping.specs.Books.{Book}
+use Rattle.bookkeeping.specs.Books.{Book, Account, opened, account}
 use Rattle.bookkeeping.specs.Log.{Call, issue, carry_out, report, Reply, goes_on, refused}
 use Rattle.bookkeeping.specs.Pasts.{Event, Past}
 use Rattle.bookkeeping.specs.LookingBack.{windows_of}
@@ -27,26 +27,36 @@ calls es = map (λ e. e.call) es
 abbrev pub replies : List Event → List Reply
 replies es = map (λ e. e.reply) es
 
--- The newest first: a policy of no entry; one that names portfolio 5, which there is not; the plan's, carried out; outcome 2, which there is
--- not; outcome 1 beside the plant that is still, and so does not allow what was carried out; outcome 1; and an order in the failed state
--- beside the plant that is still, which does not have it.
+-- The newest first: a policy of one entry, which names portfolio 5, which there is not; a policy
+-- that names it for every state; the plan's, carried out; outcome 2, which there is not; outcome 9,
+-- which there is not either, beside the plant that is still, and so does not allow what was carried
+-- out; outcome 1; and, in the failed state, an order by no entry beside the plant that is still,
+-- which does not have that state.
 pub record Refusals (m : Model) : Type 0 where
   pub events : List Event
   pub book : Book
   pub past : Past 0 events book
   pub asked : calls events
-      ≡ issue still (0 ∷ []) ∷ report m 1 ∷ report still 1 ∷ report m 2 ∷ carry_out ∷ issue m after_two.policy
-      ∷ issue m (5 ∷ 5 ∷ 5 ∷ 5 ∷ []) ∷ issue m [] ∷ []
+      ≡ issue still [] ∷ report m 1 ∷ report still 9 ∷ report m 2
+      ∷ carry_out ∷ issue m after_two.policy
+      ∷ issue m (5 ∷ 5 ∷ 5 ∷ 5 ∷ []) ∷ issue m (5 ∷ []) ∷ []
   pub told : replies events
-      ≡ refused 21 1 ∷ goes_on Open ∷ refused 21 0 ∷ refused 23 2 ∷ goes_on OnAir ∷ goes_on Issued
+      ≡ refused 21 1 ∷ goes_on Open ∷ refused 21 0 ∷ refused 23 2
+      ∷ goes_on OnAir ∷ goes_on Issued
       ∷ refused 22 0 ∷ refused 7 0 ∷ []
+  -- it stands in state 1 and has booked one window of 0 seconds and 300 cents
+  pub ends : book ≡ opened (account 1 1 0 300)
 
--- A book takes as many windows as it may, and the next order is refused.
+-- A book takes as many windows as it may and stands in state 1 then. The next order is refused for
+-- that, by no entry and beside the plant that is still, which does not have that state.
 pub record Full (m : Model) : Type 0 where
   pub earlier : List Event
   pub windows : windows_of earlier ≡ most_windows
-  pub book : Book
-  pub past : Past 0 (record { call = issue m after_two.policy; reply = refused 24 0 } ∷ earlier) book
+  pub account : Account
+  pub stands : account.state ≡ 1
+  pub booked : account.windows ≡ most_windows
+  pub past : Past 0 (record { call = issue still []; reply = refused 24 0 } ∷ earlier)
+      (opened account)
 
 pub record PastFigures : Type 0 where
   pub refusals : (table : List (Option ℕ)) → LeastTable (arcs_of lone_chain) table → Refusals (lone_plant table)

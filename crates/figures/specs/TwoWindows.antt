@@ -11,7 +11,7 @@ use Rattle.workorder.specs.Orders.{LeastTable}
 use Rattle.following.specs.Rules.{Rule, Plays, lists, costs}
 use Rattle.following.specs.Promises.{Policies, by_policies, always, charged, allowance, CostBound, Promise}
 use Rattle.bookkeeping.specs.Books.{fresh}
-use Rattle.figures.specs.OnePart.{lone_chain, lone_plant, thousandths, after_two}
+use Rattle.figures.specs.OnePart.{lone_chain, lone_plant, thousandths, after_one, after_two}
 
 -- The rival leaves the part alone in the first window, and renews it from then on.
 abbrev pub skips_once : Rule
@@ -29,6 +29,10 @@ highest_value = thousandths 1100000
 abbrev pub lowest_value : Row
 lowest_value = thousandths 0
 
+-- The greatest value of the plan after one sweep; its least value is the same as after two.
+abbrev pub higher_value : Row
+higher_value = thousandths 1400000
+
 pub record TwoWindows (m : Model) (t : Scale) : Type 0 where
   -- the plan after two sweeps has these extremes, and this is promised of every book of the plant that follows it
   pub top : Top m t after_two.values highest_value
@@ -39,6 +43,9 @@ pub record TwoWindows (m : Model) (t : Scale) : Type 0 where
   pub differs : skips_once [] 0 ≢ by_policies planned [] 0
   -- of both windows any outcome can be met
   pub met : lists m (by_policies planned) 2 [] 0 ≡ (0 ∷ 0 ∷ []) ∷ (0 ∷ 1 ∷ []) ∷ (1 ∷ 0 ∷ []) ∷ (1 ∷ 1 ∷ []) ∷ []
+  -- one window costs 3 × 10^9 by the policy, and nothing by the rival, which skips it
+  pub one_policy : costs m t (by_policies planned) 1 0 ≡ thousandths 3000000000
+  pub one_rival : costs m t skips_once 1 0 ≡ thousandths 0
   -- 7.1 × 10^13 for the policy, and so for a new book that is charged what its totals grow by; 7.4 × 10^13 for the rival
   pub policy : costs m t (by_policies planned) 2 0 ≡ thousandths 71000000000000
   pub book : (b : CostBound m t planned (allowance 2 after_two.low after_two.high highest_value lowest_value) (fresh 0) 2)
@@ -47,6 +54,13 @@ pub record TwoWindows (m : Model) (t : Scale) : Type 0 where
   -- −3 × 10^16, which is at most 1.1 × 10^18
   pub left : times whole (minus (thousandths 71000000000000) (thousandths 74000000000000)) ≡ negsuc 29999999999999999 ∷ []
   pub right : allowance 2 after_two.low after_two.high highest_value lowest_value ≡ thousandths 1100000000000000000
+  -- the plan after one sweep has the same policy and these extremes, and this is promised of every
+  -- book that follows it; low and high are 3 × 10^9 apart, and the right side is 2 × 10^18
+  pub top_of_one : Top m t after_one.values higher_value
+  pub bottom_of_one : Bottom m t after_one.values lowest_value
+  pub promise_of_one : Promise m t planned after_one.low after_one.high higher_value lowest_value
+  pub right_of_one : allowance 2 after_one.low after_one.high higher_value lowest_value
+      ≡ thousandths 2000000000000000000
 
 -- So whatever table of least work orders the chain has.
 abbrev pub BoundFigures : Type 0

@@ -16,7 +16,9 @@ pub record WorkedFigures : Type 0 where
   -- plans after sweeps of a chain of one part: low 1400000000 and high 4400000000 after one, 4100000000 for both after two,
   -- which is a sound certificate
   pub sweeps : SweepFigures
-  -- two windows of that chain's book: 7.1 × 10^13 against a rival's 7.4 × 10^13, and an allowance of 1.1 × 10^18
+  -- two windows of that chain's book: 7.1 × 10^13 against a rival's 7.4 × 10^13, and an allowance
+  -- of 1.1 × 10^18, or of 2 × 10^18 by the plan after one sweep
   pub bound : BoundFigures
-  -- pasts of its books that go through each refusal, the millionth window included
+  -- pasts of its books that go through each refusal, where later tests would fail too, and the
+  -- millionth window included
   pub pasts : PastFigures
