@@ -1,4 +1,5 @@
-ghost use Rattle.std.specs.Prelude.{◌≡◌, ◌+◌, ◌^◌, ◌<◌, true, [], ◌∷◌, length, IfNone, IfSome, IfOk};
+ghost use Rattle.std.specs.Prelude.{◌≡◌, ◌+◌, ◌^◌, ◌<◌, true, false, [], ◌∷◌, length, IfNone, IfSome, IfOk};
+ghost use Rattle.service.specs.Services.{to_make, to_issue, to_carry_out, to_report, AsksIf, AsksFor};
 ghost use Rattle.desk.specs.Asking.{Suits};
 ghost use Rattle.desk.specs.Histories.{newest};
 ghost use Rattle.desk.specs.Saying.{told_of};
@@ -114,22 +115,42 @@ impl<L: Terminal> Operator for Desk<L> {
         self.show(Claim::Bottom.line(tariff, finding.bottom));
     }
 
-    fn state(&mut self) -> Option<usize> {
+    fn state(&mut self) -> Option<usize>
+        ensures asked { AsksFor to_make result (newest asks_in self.old.talk.items)
+            (newest asks_in self.new.talk.items) }
+        ensures told { newest tells_in self.new.talk.items ≡ newest tells_in self.old.talk.items }
+        ensures ended { IfNone result (L.ended self.new.terminal ≡ true) }
+    {
         match self.ask(Due::State)? {
             Ask::State(state) => Some(state as usize),
             _ => None,
         }
     }
 
-    fn order(&mut self) -> bool {
+    fn order(&mut self) -> bool
+        ensures asked { AsksIf to_issue result (newest asks_in self.old.talk.items)
+            (newest asks_in self.new.talk.items) }
+        ensures told { newest tells_in self.new.talk.items ≡ newest tells_in self.old.talk.items }
+        ensures ended { result ≡ false → L.ended self.new.terminal ≡ true }
+    {
         self.ask(Due::Order).is_some()
     }
 
-    fn carry_out(&mut self) -> bool {
+    fn carry_out(&mut self) -> bool
+        ensures asked { AsksIf to_carry_out result (newest asks_in self.old.talk.items)
+            (newest asks_in self.new.talk.items) }
+        ensures told { newest tells_in self.new.talk.items ≡ newest tells_in self.old.talk.items }
+        ensures ended { result ≡ false → L.ended self.new.terminal ≡ true }
+    {
         self.ask(Due::CarryOut).is_some()
     }
 
-    fn outcome(&mut self) -> Option<usize> {
+    fn outcome(&mut self) -> Option<usize>
+        ensures asked { AsksFor to_report result (newest asks_in self.old.talk.items)
+            (newest asks_in self.new.talk.items) }
+        ensures told { newest tells_in self.new.talk.items ≡ newest tells_in self.old.talk.items }
+        ensures ended { IfNone result (L.ended self.new.terminal ≡ true) }
+    {
         match self.ask(Due::Outcome)? {
             Ask::Outcome(outcome) => Some(outcome as usize),
             _ => None,
