@@ -16,6 +16,7 @@ mod proved {
         fn nensuya_ask_chain(text: *const u8, length: usize, rounds: u32, answer: *mut u64) -> u32;
         fn nensuya_ask_pair(text: *const u8, length: usize, rounds: u32, answer: *mut u64) -> u32;
         fn nensuya_plan_priced(text: *const u8, length: usize, rate: u32, sweeps: u32, answer: *mut u64) -> u32;
+        fn nensuya_book_chain(text: *const u8, length: usize, windows: u32, answer: *mut u64) -> u32;
         fn nensuya_plan_air_first(text: *const u8, length: usize, sweeps: u32, answer: *mut u64) -> u32;
     }
 
@@ -44,6 +45,12 @@ mod proved {
     pub fn plan_air_first(text: &[u8], sweeps: u32) -> Result<u64, u32> {
         let mut answer = 0;
         let number = unsafe { nensuya_plan_air_first(text.as_ptr(), text.len(), sweeps, &mut answer) };
+        found(number, answer)
+    }
+
+    pub fn book_chain(text: &[u8], windows: u32) -> Result<u64, u32> {
+        let mut answer = 0;
+        let number = unsafe { nensuya_book_chain(text.as_ptr(), text.len(), windows, &mut answer) };
         found(number, answer)
     }
 }
@@ -109,6 +116,22 @@ fn plan<P: Plant, T: Tariff>(plant: &P, tariff: &T, sweeps: u32) -> Result<u64, 
     Ok(policy.iter().fold(digest, |digest, portfolio| mix(digest, u64::from(*portfolio))))
 }
 
+// So many windows of a book in which everything is renewed each time, the outcomes drawn by the digest.
+fn book<P: Plant>(plant: &P, windows: u32) -> Result<u64, hand::BookRefusal> {
+    let policy = vec![(plant.portfolios() - 1) as u16; plant.states()];
+    let mut open = hand::Open::make(plant, 0)?;
+    let mut digest = 0;
+    for _ in 0..windows {
+        let on_air = open.issue(plant, &policy).map_err(|(_, why)| why)?.carry_out();
+        let count = plant.outcome_count(on_air.state(), usize::from(on_air.portfolio()));
+        let outcome = (digest >> 33) as usize % count.max(1);
+        open = on_air.report(plant, outcome).map_err(|(_, why)| why)?;
+        let account = open.account();
+        digest = mix(mix(mix(digest, account.state as u64), account.seconds), account.cents);
+    }
+    Ok(digest)
+}
+
 // ---- the comparisons
 
 // The rate of the plans under the priced tariff.
@@ -164,6 +187,15 @@ fn air_first(name: &'static str, text: String, sweeps: u32) -> Comparison {
     }
 }
 
+fn book_of_chain(name: &'static str, text: String, windows: u32) -> Comparison {
+    let copy = text.clone();
+    Comparison {
+        name,
+        proved: Box::new(move || proved::book_chain(text.as_bytes(), windows).expect("a book")),
+        hand: Box::new(move || book(&texts::read_chain(&copy).expect("a lawful chain"), windows).expect("a book")),
+    }
+}
+
 fn comparisons() -> Vec<Comparison> {
     vec![
         ask_of_chain("ask-chain-3", texts::chain_of(&[16, 16, 4]), 1),
@@ -175,6 +207,7 @@ fn comparisons() -> Vec<Comparison> {
         air_first("plan-6-airfirst", texts::chain_of(&[4, 4, 3, 3, 2, 2]), 1),
         priced("long-priced", texts::chain_of(&[16, 16, 4]), 100),
         air_first("long-airfirst", texts::chain_of(&[16, 16, 4]), 100),
+        book_of_chain("book-6", texts::chain_of(&[4, 4, 3, 3, 2, 2]), 1_000_000),
     ]
 }
 

@@ -562,3 +562,108 @@ pub fn plan<P: Plant, T: Tariff>(
     }
     Ok(claims(plant, tariff, values, policy).expect("the policy is feasible"))
 }
+
+// ---- the book
+
+const MOST_WINDOWS: u32 = 1_000_000;
+
+// Where a book stands, and what it has booked.
+#[derive(Clone, Copy)]
+pub struct Account {
+    pub state: usize,
+    pub windows: u32,
+    pub seconds: u64,
+    pub cents: u64,
+}
+
+#[derive(Debug)]
+pub enum BookRefusal {
+    NoState(usize),
+    WrongLength,
+    Infeasible(usize),
+    NoOutcome(usize),
+    Full,
+}
+
+pub struct Open(Account);
+
+pub struct Issued {
+    account: Account,
+    portfolio: u16,
+    bill: Bill,
+}
+
+pub struct OnAir {
+    account: Account,
+    portfolio: u16,
+}
+
+impl Open {
+    pub fn make<P: Plant>(plant: &P, state: usize) -> Result<Open, BookRefusal> {
+        if state >= plant.states() {
+            return Err(BookRefusal::NoState(state));
+        }
+        Ok(Open(Account { state, windows: 0, seconds: 0, cents: 0 }))
+    }
+
+    pub fn account(&self) -> Account {
+        self.0
+    }
+
+    pub fn issue<P: Plant>(self, plant: &P, policy: &[u16]) -> Result<Issued, (Open, BookRefusal)> {
+        let account = self.0;
+        let state = account.state;
+        if account.windows >= MOST_WINDOWS {
+            return Err((self, BookRefusal::Full));
+        }
+        if state >= plant.states() {
+            return Err((self, BookRefusal::NoState(state)));
+        }
+        if policy.len() != plant.states() {
+            return Err((self, BookRefusal::WrongLength));
+        }
+        let portfolio = policy[state];
+        match plant.bill(state, usize::from(portfolio)) {
+            None => Err((self, BookRefusal::Infeasible(state))),
+            Some(bill) => Ok(Issued { account, portfolio, bill }),
+        }
+    }
+}
+
+impl Issued {
+    // Totals are added with a check, as nothing here shows that they cannot overflow.
+    pub fn carry_out(self) -> OnAir {
+        let Issued { account, portfolio, bill } = self;
+        OnAir {
+            account: Account {
+                state: account.state,
+                windows: account.windows.checked_add(1).expect("few windows"),
+                seconds: account.seconds.checked_add(u64::from(bill.seconds)).expect("few seconds"),
+                cents: account.cents.checked_add(u64::from(bill.cents)).expect("few cents"),
+            },
+            portfolio,
+        }
+    }
+}
+
+impl OnAir {
+    pub fn state(&self) -> usize {
+        self.account.state
+    }
+
+    pub fn portfolio(&self) -> u16 {
+        self.portfolio
+    }
+
+    pub fn report<P: Plant>(self, plant: &P, k: usize) -> Result<Open, (OnAir, BookRefusal)> {
+        let state = self.account.state;
+        let portfolio = usize::from(self.portfolio);
+        if !plant.feasible(state, portfolio) {
+            return Err((self, BookRefusal::NoState(state)));
+        }
+        match plant.outcome(state, portfolio, k) {
+            None => Err((self, BookRefusal::NoOutcome(k))),
+            Some(outcome) => Ok(Open(Account { state: outcome.next, ..self.account })),
+        }
+    }
+}

@@ -16,7 +16,10 @@ use Rattle.planner.specs.Refusals.{number_of as planner_number}
 use Rattle.planner.specs.declared.refusal.Refusal.{Refusal}
 use Rattle.reading.specs.Rules.{number_of}
 use Rattle.reading.specs.declared.rules.ReadRefusal.{ReadRefusal}
+use Rattle.bookkeeping.specs.Refusals.{number_of as book_number}
+use Rattle.bookkeeping.specs.declared.refusal.Refusal.{Refusal as BookRefusal}
 use Rattle.bench.specs.Asking.{asked_again}
+use Rattle.bench.specs.Booking.{ComesTo}
 use Rattle.bench.specs.Planning.{PlanMade, model_of, cost_row, dark_row}
 
 -- 0 and the number that was found, or the number of a refusal and nothing written
@@ -54,3 +57,8 @@ PlansPriced text rate sweeps (Err n) =
 abbrev pub PlansAirFirst : List ℕ → ℕ → Result ℕ ℕ → Type 0
 PlansAirFirst text sweeps (Ok d) = (c : Chain) × ChainIn text (Ok c) × PlanMade dark_row (model_of c) air_first_scale sweeps (Ok d)
 PlansAirFirst text sweeps (Err n) = ChainRefused text n ⊎ ((c : Chain) × ChainIn text (Ok c) × PlanRefused dark_row (model_of c) air_first_scale sweeps n)
+
+-- a book of so many windows; or the text is refused, or a call of the book
+abbrev pub BooksChain : List ℕ → ℕ → Result ℕ ℕ → Type 0
+BooksChain text windows (Ok d) = (c : Chain) × ChainIn text (Ok c) × ComesTo (model_of c) windows d
+BooksChain text windows (Err n) = ChainRefused text n ⊎ ((c : Chain) × ChainIn text (Ok c) × ((e : BookRefusal) × (n ≡ book_number e)))

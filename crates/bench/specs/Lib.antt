@@ -1,4 +1,5 @@
 pub mod Asking
+pub mod Booking
 pub mod Digests
 pub mod Exports
 pub mod Planning

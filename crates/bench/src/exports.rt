@@ -1,10 +1,11 @@
 // What a program in another language calls. Each call answers 0 and writes its number, or answers the number of the
 // refusal and writes nothing.
 ghost use Rattle.std.specs.Prelude.{◌≡◌, ℕ, Result};
-ghost use Rattle.bench.specs.Exports.{ChainIn, AsksChain, AsksPair, PlansPriced, PlansAirFirst, Told};
+ghost use Rattle.bench.specs.Exports.{ChainIn, AsksChain, BooksChain, AsksPair, PlansPriced, PlansAirFirst, Told};
 ghost use Rattle.bench.specs.Refusals.{numbered};
 
 use crate::asking::ask_rounds;
+use crate::booking::told_book;
 use crate::planning::told_plan;
 use crate::refusal::Refused;
 use chain::plant::Chain;
@@ -54,6 +55,12 @@ fn air_first_plan(text: &[u8], sweeps: u32) -> Result<u64, Refused>
     Ok(told_plan(&chain, &AirFirst, sweeps)?)
 }
 
+fn chain_book(text: &[u8], windows: u32) -> Result<u64, Refused>
+    ensures { BooksChain text.now windows (numbered result) }
+{
+    Ok(told_book(&chain_in(text)?, windows)?)
+}
+
 // The refusal becomes its number here, at the edge of the C interface.
 fn tell(found: Result<u64, Refused>, answer: &mut u64) -> u32
     ensures { Told (numbered found) answer.old answer.new result }
@@ -97,4 +104,12 @@ pub extern "C" fn nensuya_plan_air_first(text: &[u8], sweeps: u32, answer: &mut 
     ensures { (f : Result ℕ ℕ) × PlansAirFirst text.now sweeps f × Told f answer.old answer.new result }
 {
     tell(air_first_plan(text, sweeps), answer)
+}
+
+// So many windows of a book of the chain in the text, in which everything is renewed each time.
+#[unsafe(no_mangle)]
+pub extern "C" fn nensuya_book_chain(text: &[u8], windows: u32, answer: &mut u64) -> u32
+    ensures { (f : Result ℕ ℕ) × BooksChain text.now windows f × Told f answer.old answer.new result }
+{
+    tell(chain_book(text, windows), answer)
 }

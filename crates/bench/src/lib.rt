@@ -1,8 +1,9 @@
-// What the benchmarks call: every question of a plant asked, and whole plans made, each told as one number, so that
+// What the benchmarks call: every question of a plant asked, whole plans made, and books followed, each told as one number, so that
 // another version's answers can be held against these.
 #![tactic(auto)]
 
 mod asking;
+mod booking;
 pub mod exports;
 mod mixing;
 mod planning;

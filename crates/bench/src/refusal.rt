@@ -1,8 +1,9 @@
 // Why a call answers no number.
 ghost use Rattle.std.specs.Prelude.{◌≡◌};
 ghost use Rattle.bench.specs.Refusals.{number_of};
-ghost use Rattle.bench.specs.declared.refusal.Refused.TheVariants.{Text, Rate, Plan};
+ghost use Rattle.bench.specs.declared.refusal.Refused.TheVariants.{Text, Rate, Plan, Book};
 
+use bookkeeping::refusal::Refusal as BookRefusal;
 use planner::refusal::Refusal;
 use reading::rules::ReadRefusal;
 use tariffs::refusal::Unpriced;
@@ -13,6 +14,7 @@ pub(crate) enum Refused {
     Text(ReadRefusal),
     Rate(Unpriced),
     Plan(Refusal),
+    Book(BookRefusal),
 }
 
 // Its one number is a method and no From: it is that of the refusal held, where it is a method of this name too.
@@ -25,6 +27,7 @@ impl Refused {
             Refused::Text(refusal) => refusal.number(),
             Refused::Rate(refusal) => refusal.number(),
             Refused::Plan(refusal) => refusal.number(),
+            Refused::Book(refusal) => refusal.number(),
         }
     }
 }
@@ -50,5 +53,13 @@ impl From<Refusal> for Refused {
 
     fn from(refusal: Refusal) -> Refused {
         Refused::Plan(refusal)
+    }
+}
+
+impl From<BookRefusal> for Refused {
+    ghost from_gives = { λ e r. r ≡ Book e };
+
+    fn from(refusal: BookRefusal) -> Refused {
+        Refused::Book(refusal)
     }
 }

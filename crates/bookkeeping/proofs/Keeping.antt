@@ -1,79 +1,48 @@
 -- What is kept of every past, by induction on it.
-use Rattle.std.proofs.Common.{◌≡◌, ℕ, zero, suc, ◌+◌, ◌<◌, ◌≤◌, ◌↔◌, true, cond, List, [], ◌∷◌, Some, sym, refl, ap, ◌∙◌, subst, arith, None}
+use Rattle.std.proofs.Common.{◌≡◌, ℕ, zero, suc, ◌+◌, ◌<◌, ◌≤◌, ◌↔◌, true, cond, List, [], ◌∷◌, Some, sym, refl, ap, ◌∙◌, subst, arith}
 use Rattle.std.specs.List.{filter, count_by, slice_get}
 use Rattle.std.specs.Option.{IfSome}
 use Rattle.std.proofs.lemmas.List.Sums.{sum_by-cons}
 use Rattle.interface.specs.Limits.{most_windows}
 use Rattle.std.specs.Bool.{⊤}
-use Rattle.interface.specs.Plants.{Model, Lawful, Inside, named, outcomes_of}
+use Rattle.interface.specs.Plants.{Model, Lawful, Inside, named}
 use Rattle.interface.specs.declared.plant.Outcome.{Outcome}
 use Rattle.bookkeeping.specs.declared.stage.Stage.TheVariants.{Open, Issued, OnAir}
 use Rattle.bookkeeping.specs.Books.{Account, Order, Airing, Book, opened, issued, on_air, account_of, aired}
 use Rattle.bookkeeping.specs.Calls.{MayIssue, ordered, Reported, IssueRefused, full, no_state, wrong_length, infeasible, ReportRefused, not_allowed, no_outcome}
-use Rattle.bookkeeping.specs.Log.{Note, Log, start, Call, issue, carry_out, report, Reply, goes_on, refused, reply, after, after_reply, went_on, Agrees}
-use Rattle.bookkeeping.specs.LookingBack.{is_accepted, is_issue, is_order, is_carry_out, is_report, windows_of, TakesTurns, AccountFor, FullExactly, AllBeside, EachOf, NoneUnknown, orders_of, reports_of, IsOrdered, Ended, Made, MakesAt, Makes, Kept, last_order, IsNamed, HoldsNamed}
+use Rattle.bookkeeping.specs.Log.{Log, Call, issue, carry_out, report, Reply, goes_on, refused, reply, after, after_reply, Agrees}
+use Rattle.bookkeeping.specs.LookingBack.{is_accepted, is_order, is_carry_out, is_report, windows_of, TakesTurns, last_order, IsNamed, HoldsNamed, Ending, endings_of, AccountFor, FullExactly, IsBeside, AllBeside, EachOf, EachEndedBeside, NoneUnknown, Kept}
 use Rattle.bookkeeping.specs.Pasts.{Event, Past, made, was_issued, issue_was_refused, was_carried_out, was_reported, report_was_refused, log_of, EachAnswered}
 use Rattle.bookkeeping.proofs.Replies.{reported_may}
 use Rattle.bookkeeping.proofs.Mirrors.{Mirrors, Out, issue_done, issue_not_done, carried_out, reported, not_reported}
 
 -- the log goes with the book
-pub mirrored : (first : ℕ) (es : List Event) (b : Book) → Past first es b → EachAnswered first es × Mirrors first (log_of first es) b
+pub mirrored : (first : ℕ) (es : List Event) (b : Book) → Past first es b → EachAnswered first es × Mirrors first (log_of first es) (endings_of es) b
 mirrored first es b (made m lawful inside) = (tt, record { notes = []; is = refl; sums = record { windows = refl; seconds = refl; cents = refl }; trail = refl })
 mirrored first es b (was_issued {es = earlier} {a = a} m ps before lawful may) =
     let so_far = mirrored first earlier (opened a) before in
-    let step = issue_done first (log_of first earlier) a m ps so_far.1 may in
+    let step = issue_done first (log_of first earlier) (endings_of earlier) a m ps so_far.1 lawful may in
     ((step.answered, so_far.0), step.mirrors)
 mirrored first es b (issue_was_refused {es = earlier} {a = a} m ps n p before lawful why) =
     let so_far = mirrored first earlier (opened a) before in
-    let step = issue_not_done first (log_of first earlier) a m ps n p so_far.1 why in
+    let step = issue_not_done first (log_of first earlier) (endings_of earlier) a m ps n p so_far.1 why in
     ((step.answered, so_far.0), step.mirrors)
 mirrored first es b (was_carried_out {es = earlier} {o = o} before) =
     let so_far = mirrored first earlier (issued o) before in
-    let step = carried_out first (log_of first earlier) o so_far.1 in
+    let step = carried_out first (log_of first earlier) (endings_of earlier) o so_far.1 in
     ((step.answered, so_far.0), step.mirrors)
 mirrored first es b (was_reported {es = earlier} {w = w} m k a before lawful told) =
     let so_far = mirrored first earlier (on_air w) before in
-    let step = reported first (log_of first earlier) w m k a so_far.1 told in
+    let step = reported first (log_of first earlier) (endings_of earlier) w m k a so_far.1 lawful told in
     ((step.answered, so_far.0), step.mirrors)
 mirrored first es b (report_was_refused {es = earlier} {w = w} m k n p before lawful why) =
     let so_far = mirrored first earlier (on_air w) before in
-    let step = not_reported first (log_of first earlier) w m k n p so_far.1 why in
+    let step = not_reported first (log_of first earlier) (endings_of earlier) w m k n p so_far.1 why in
     ((step.answered, so_far.0), step.mirrors)
 
--- one order more, carried out, and reported
-module _ (first : ℕ) (os : List (Model × List ℕ)) (rs : List (Model × ℕ)) where
-  makes_order : (l : Log) (m : Model) (ps : List ℕ) (s : ℕ) (ws : List Note) → l ≡ record { stage = Open; state = s; held = None; notes = ws }
-      → Makes first os rs l → Makes first ((m, ps) ∷ os) rs (went_on l (issue m ps))
-  makes_order l m ps s ws is makes =
-      subst (λ z. Makes first ((m, ps) ∷ os) rs (went_on z (issue m ps))) (sym is)
-      (record { plant = refl; state = refl; entry = refl }, subst (Makes first os rs) is makes)
-
-  makes_carry_out : (l : Log) (s : ℕ) (h : Note) (ws : List Note) → l ≡ record { stage = Issued; state = s; held = Some h; notes = ws }
-      → Makes first os rs l → Makes first os rs (after l carry_out)
-  makes_carry_out l s h ws is makes = subst (λ z. Makes first os rs (after z carry_out)) (sym is) (on_air_made os (subst (Makes first os rs) is makes))
-    where
-      on_air_made : (qs : List (Model × List ℕ)) → MakesAt first qs rs Issued s (Some h) ws → MakesAt first qs rs OnAir s (Some h) (h ∷ ws)
-      on_air_made [] none = none
-      on_air_made (q ∷ qs) some = (refl, some.0, some.1)
-
-  makes_report : (l : Log) (m : Model) (k s : ℕ) (h : Note) (ws : List Note) (o : Outcome) → l ≡ record { stage = OnAir; state = s; held = Some h; notes = h ∷ ws }
-      → h.state ≡ s → slice_get (outcomes_of m s h.portfolio) k ≡ Some o → Makes first os rs l → Makes first os ((m, k) ∷ rs) (went_on l (report m k))
-  makes_report l m k s h ws o is at there makes =
-      subst (λ z. Makes first os ((m, k) ∷ rs) (went_on z (report m k))) (sym is)
-      (rw there (landed os (subst (Makes first os rs) is makes)))
-    where
-      landed : (qs : List (Model × List ℕ)) → MakesAt first qs rs OnAir s (Some h) (h ∷ ws) → Made first qs ((m, k) ∷ rs) (h ∷ ws) o.next
-      landed [] none = absurd none
-      landed (q ∷ qs) some =
-          let from_window = ap (λ z. slice_get (outcomes_of m z h.portfolio) k) at ∙ there in (
-            subst (λ z. IsOrdered h q z) (sym at) some.1,
-            record { outcome = o; there = from_window; next = refl },
-            subst (Made first qs rs ws) (sym at) some.2,
-          )
-
 -- a log that goes with a book agrees with it
-agrees_from : (first : ℕ) (l : Log) (b : Book) → Mirrors first l b → Agrees l b
-agrees_from first l (opened a) free = subst (λ z. Agrees z (opened a)) (sym free.is) (record {
+agrees_from : (first : ℕ) (l : Log) (es : List Ending) (b : Book) → Mirrors first l es b → Agrees l b
+agrees_from first l es (opened a) free = subst (λ z. Agrees z (opened a)) (sym free.is) (record {
   stage = refl;
   state = refl;
   held = refl;
@@ -81,7 +50,7 @@ agrees_from first l (opened a) free = subst (λ z. Agrees z (opened a)) (sym fre
   seconds = free.sums.seconds;
   cents = free.sums.cents;
 })
-agrees_from first l (issued o) out = subst (λ z. Agrees z (issued o)) (sym out.is) (record {
+agrees_from first l es (issued o) out = subst (λ z. Agrees z (issued o)) (sym out.is) (record {
   stage = refl;
   state = refl;
   held = ap (λ x. Some x) (sym out.portfolio);
@@ -89,7 +58,7 @@ agrees_from first l (issued o) out = subst (λ z. Agrees z (issued o)) (sym out.
   seconds = out.sums.seconds;
   cents = out.sums.cents;
 })
-agrees_from first l (on_air w) flying = subst (λ z. Agrees z (on_air w)) (sym flying.is) (record {
+agrees_from first l es (on_air w) flying = subst (λ z. Agrees z (on_air w)) (sym flying.is) (record {
   stage = refl;
   state = refl;
   held = ap (λ x. Some x) (sym flying.portfolio);
@@ -99,11 +68,11 @@ agrees_from first l (on_air w) flying = subst (λ z. Agrees z (on_air w)) (sym f
 })
 
 -- its notes account for the book
-accounts_from : (first : ℕ) (l : Log) (b : Book) → Mirrors first l b → AccountFor first l.notes b
-accounts_from first l (opened a) free = subst (λ z. AccountFor first z.notes (opened a)) (sym free.is) free.trail
-accounts_from first l (issued o) out = subst (λ z. AccountFor first z.notes (issued o)) (sym out.is) out.trail
-accounts_from first l (on_air w) flying =
-    subst (λ z. AccountFor first z.notes (on_air w)) (sym flying.is) (flying.feasible, flying.state, flying.portfolio, flying.trail)
+accounts_from : (first : ℕ) (l : Log) (es : List Ending) (b : Book) → Mirrors first l es b → AccountFor first l.notes es b
+accounts_from first l es (opened a) free = subst (λ z. AccountFor first z.notes es (opened a)) (sym free.is) free.trail
+accounts_from first l es (issued o) out = subst (λ z. AccountFor first z.notes es (issued o)) (sym out.is) out.trail
+accounts_from first l es (on_air w) flying =
+    subst (λ z. AccountFor first z.notes es (on_air w)) (sym flying.is) (flying.allowed, flying.state, flying.portfolio, flying.trail)
 
 -- each event is counted
 counts_more : (e : Event) (es : List Event) → (count_by is_order (e ∷ es) ≡ cond (is_order e) 1 0 + count_by is_order es) × (windows_of (e ∷ es) ≡ cond (is_carry_out e) 1 0 + windows_of es) × (count_by is_report (e ∷ es) ≡ cond (is_report e) 1 0 + count_by is_report es)
@@ -238,8 +207,8 @@ known_issue first l a m p ps known same may told =
       holding = (subst (λ q. q.feasible a.state (named ps a.state) ≡ true) same may.feasible, same);
     })
 
-known_carry_out : (first : ℕ) (l : Log) (o : Order) (m : Model) → Known m l (issued o) → Out first l o → Known m (after l carry_out) (on_air (aired o))
-known_carry_out first l o m known out =
+known_carry_out : (first : ℕ) (l : Log) (es : List Ending) (o : Order) (m : Model) → Known m l (issued o) → Out first l es o → Known m (after l carry_out) (on_air (aired o))
+known_carry_out first l es o m known out =
     subst (λ z. Known m z (on_air (aired o))) (sym (ap (λ z. after z carry_out) out.is)) (record {
       inside = known.inside;
       notes = (subst (λ z. IfSome z (λ n. n.plant ≡ m)) (ap (λ z. z.held) out.is) known.holding.1, subst (λ z. EachOf m z.notes) out.is known.notes);
@@ -258,13 +227,13 @@ all_known : (first : ℕ) (es : List Event) (b : Book) (m : Model) → Past firs
 all_known first es b m (made p lawful inside) start_in beside = (tt, record { inside = start_in; notes = tt; holding = tt })
 all_known first es b m (was_issued {es = earlier} {a = a} p ps before lawful may) start_in beside =
     let so_far = all_known first earlier (opened a) m before start_in beside.1 in
-    let step = issue_done first (log_of first earlier) a p ps (mirrored first earlier (opened a) before).1 may in (
+    let step = issue_done first (log_of first earlier) (endings_of earlier) a p ps (mirrored first earlier (opened a) before).1 lawful may in (
       ((λ q told. let z : ◌≡◌ {A = ℕ} 0 1 = cc in absurd (omega arith)), so_far.0),
       known_issue first (log_of first earlier) a m p ps so_far.1 beside.0 may step.answered,
     )
 all_known first es b m (issue_was_refused {es = earlier} {a = a} p ps n q before lawful why) start_in beside =
     let so_far = all_known first earlier (opened a) m before start_in beside.1 in
-    let step = issue_not_done first (log_of first earlier) a p ps n q (mirrored first earlier (opened a) before).1 why in (
+    let step = issue_not_done first (log_of first earlier) (endings_of earlier) a p ps n q (mirrored first earlier (opened a) before).1 why in (
       ((λ i told. never n q i (ap (λ z. z.states) beside.0) so_far.1.inside why told), so_far.0),
       subst (λ z. Known m z (opened a)) (sym (ap (λ z. after_reply (log_of first earlier) (issue p ps) z) step.answered)) so_far.1,
     )
@@ -277,11 +246,11 @@ all_known first es b m (issue_was_refused {es = earlier} {a = a} p ps n q before
 all_known first es b m (was_carried_out {es = earlier} {o = o} before) start_in beside =
     let so_far = all_known first earlier (issued o) m before start_in beside.1 in (
       ((λ q told. let z : ◌≡◌ {A = ℕ} 0 1 = cc in absurd (omega arith)), so_far.0),
-      known_carry_out first (log_of first earlier) o m so_far.1 (mirrored first earlier (issued o) before).1,
+      known_carry_out first (log_of first earlier) (endings_of earlier) o m so_far.1 (mirrored first earlier (issued o) before).1,
     )
 all_known first es b m (was_reported {es = earlier} {w = w} p k a before lawful told) start_in beside =
     let so_far = all_known first earlier (on_air w) m before start_in beside.1 in
-    let step = reported first (log_of first earlier) w p k a (mirrored first earlier (on_air w) before).1 told in (
+    let step = reported first (log_of first earlier) (endings_of earlier) w p k a (mirrored first earlier (on_air w) before).1 lawful told in (
       ((λ q other. let z : ◌≡◌ {A = ℕ} 0 1 = cc in absurd (omega arith)), so_far.0),
       beside_same beside.0 so_far.1 lawful told step.answered,
     )
@@ -293,7 +262,7 @@ all_known first es b m (was_reported {es = earlier} {w = w} p k a before lawful 
         (λ here. known_report first (log_of first earlier) w p k a here lawful told answered) known
 all_known first es b m (report_was_refused {es = earlier} {w = w} p k n q before lawful why) start_in beside =
     let so_far = all_known first earlier (on_air w) m before start_in beside.1 in
-    let step = not_reported first (log_of first earlier) w p k n q (mirrored first earlier (on_air w) before).1 why in (
+    let step = not_reported first (log_of first earlier) (endings_of earlier) w p k n q (mirrored first earlier (on_air w) before).1 why in (
       ((λ i told. never n q i (ap (λ z. z.feasible w.account.state w.portfolio) beside.0) so_far.1.holding why told), so_far.0),
       subst (λ z. Known m z (on_air w)) (sym (ap (λ z. after_reply (log_of first earlier) (report p k) z) step.answered)) so_far.1,
     )
@@ -303,34 +272,16 @@ all_known first es b m (report_was_refused {es = earlier} {w = w} p k n q before
     never n q i same may (not_allowed out) told = let z : ◌≡◌ {A = ℕ} 0 1 = cc in omega arith
     never n q i same may (no_outcome feasible out) told = let z : ◌≡◌ {A = ℕ} 23 21 = cc in omega arith
 
--- the log is what orders and reports make of the first state
-made_of : (first : ℕ) (es : List Event) (b : Book) → Past first es b → Makes first (orders_of es) (reports_of es) (log_of first es)
-made_of first es b (made m lawful inside) = refl
-made_of first es b (was_issued {es = earlier} {a = a} m ps before lawful may) =
-    let l = log_of first earlier in
-    let free = (mirrored first earlier (opened a) before).1 in
-    let step = issue_done first l a m ps free may in
-    subst (λ z. Makes first ((m, ps) ∷ orders_of earlier) (reports_of earlier) (after_reply l (issue m ps) z)) (sym step.answered)
-    (makes_order first (orders_of earlier) (reports_of earlier) l m ps a.state free.notes free.is (made_of first earlier (opened a) before))
-made_of first es b (issue_was_refused {es = earlier} {a = a} m ps n p before lawful why) =
-    let l = log_of first earlier in
-    let step = issue_not_done first l a m ps n p (mirrored first earlier (opened a) before).1 why in
-    subst (λ z. Makes first (orders_of earlier) (reports_of earlier) (after_reply l (issue m ps) z)) (sym step.answered) (made_of first earlier (opened a) before)
-made_of first es b (was_carried_out {es = earlier} {o = o} before) =
-    let out = (mirrored first earlier (issued o) before).1 in
-    makes_carry_out first (orders_of earlier) (reports_of earlier) (log_of first earlier) o.account.state out.window out.notes out.is (made_of first earlier (issued o) before)
-made_of first es b (was_reported {es = earlier} {w = w} m k a before lawful told) =
-    let l = log_of first earlier in
-    let flying = (mirrored first earlier (on_air w) before).1 in
-    let step = reported first l w m k a flying told in
-    let there = ap (λ x. slice_get (outcomes_of m w.account.state x) k) flying.portfolio ∙ told.there in
-    subst (λ z. Makes first (orders_of earlier) ((m, k) ∷ reports_of earlier) (after_reply l (report m k) z)) (sym step.answered)
-    (makes_report first (orders_of earlier) (reports_of earlier) l m k w.account.state flying.window flying.notes told.outcome flying.is flying.state there
-    (made_of first earlier (on_air w) before))
-made_of first es b (report_was_refused {es = earlier} {w = w} m k n p before lawful why) =
-    let l = log_of first earlier in
-    let step = not_reported first l w m k n p (mirrored first earlier (on_air w) before).1 why in
-    subst (λ z. Makes first (orders_of earlier) (reports_of earlier) (after_reply l (report m k) z)) (sym step.answered) (made_of first earlier (on_air w) before)
+-- and the reports are of that plant
+ended_beside : (m : Model) (es : List Event) → AllBeside m es → EachEndedBeside m (endings_of es)
+ended_beside m [] beside = tt
+ended_beside m (e ∷ es) beside = by_reply e.call e.reply beside.0 (ended_beside m es beside.1)
+  where
+    by_reply : (c : Call) (r : Reply) → IsBeside m c → EachEndedBeside m (endings_of es) → EachEndedBeside m (endings_of (record { call = c; reply = r } ∷ es))
+    by_reply (issue p ps) r same rest = rest
+    by_reply carry_out r same rest = rest
+    by_reply (report p k) (goes_on s) same rest = (same, rest)
+    by_reply (report p k) (refused n q) same rest = rest
 
 -- all that is kept of a past
 pub kept : (first : ℕ) (es : List Event) (b : Book) → Past first es b → Kept first es b
@@ -339,14 +290,13 @@ kept first es b past =
     let counts = counted first es b past in
     record {
       answered = log.0;
-      agrees = agrees_from first (log_of first es) b log.1;
-      makes = made_of first es b past;
-      accounted = accounts_from first (log_of first es) b log.1;
+      agrees = agrees_from first (log_of first es) (endings_of es) b log.1;
+      accounted = accounts_from first (log_of first es) (endings_of es) b log.1;
       windows = counts.0;
       turns = counts.1;
       held = held_named first es b past;
       full = full_exactly first es b past;
       without_refused = without first es b past;
       same_log = same_without first es log.0;
-      known = λ m start_in beside. let all = all_known first es b m past start_in beside in (all.0, all.1.notes);
+      known = λ m start_in beside. let all = all_known first es b m past start_in beside in (all.0, all.1.notes, ended_beside m es beside);
     }

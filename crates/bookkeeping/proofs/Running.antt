@@ -13,9 +13,9 @@ use Rattle.bookkeeping.specs.declared.standing.Answer.{Answer}
 use Rattle.bookkeeping.specs.declared.standing.Answer.TheVariants.{Next, Refused}
 use Rattle.bookkeeping.specs.Books.{Book, opened, issued, on_air, account_of}
 use Rattle.bookkeeping.specs.Log.{Log, start, Call, issue, carry_out, report, Reply, reply, after, after_reply, Agrees}
-use Rattle.bookkeeping.specs.LookingBack.{AccountFor, EachOf, IsBeside, AllBeside, GoesOn, Continues}
+use Rattle.bookkeeping.specs.LookingBack.{Ending, endings_of, AccountFor, EachOf, EachEndedBeside, IsBeside, AllBeside, GoesOn, Continues}
 use Rattle.bookkeeping.specs.Pasts.{Event, Past, log_of}
-use Rattle.bookkeeping.specs.Runs.{log_replies, log_after, events_after, with_room, is_aired, RanInto}
+use Rattle.bookkeeping.specs.Runs.{log_replies, log_after, events_after, fitting, with_room, is_aired, RanInto}
 use Rattle.bookkeeping.specs.Standings.{asked, reply_of, fits, event_of, Answered}
 use Rattle.bookkeeping.proofs.Booking.{goes_on_so}
 use Rattle.bookkeeping.proofs.Keeping.{mirrored}
@@ -61,22 +61,22 @@ log_of_events first es (c ∷ cs) = by_reply (reply (log_of first es) c) refl (�
     by_reply (Some r) told rest = rest (record { call = c; reply = r } ∷ es)
 
 -- the log has no answer to a call that does not fit its book
-no_reply : (first : ℕ) (l : Log) (b : Book) (c : Call) → Mirrors first l b → fits b c ≡ false → reply l c ≡ None
-no_reply first l (opened a) (issue m ps) free not_so = let z : ◌≡◌ {A = ℕ} 0 1 = cc in absurd (omega arith)
-no_reply first l (opened a) carry_out free not_so = ap (λ z. reply z carry_out) free.is
-no_reply first l (opened a) (report m k) free not_so = ap (λ z. reply z (report m k)) free.is
-no_reply first l (issued o) (issue m ps) out not_so = ap (λ z. reply z (issue m ps)) out.is
-no_reply first l (issued o) carry_out out not_so = let z : ◌≡◌ {A = ℕ} 0 1 = cc in absurd (omega arith)
-no_reply first l (issued o) (report m k) out not_so = ap (λ z. reply z (report m k)) out.is
-no_reply first l (on_air w) (issue m ps) flying not_so = ap (λ z. reply z (issue m ps)) flying.is
-no_reply first l (on_air w) carry_out flying not_so = ap (λ z. reply z carry_out) flying.is
-no_reply first l (on_air w) (report m k) flying not_so = let z : ◌≡◌ {A = ℕ} 0 1 = cc in absurd (omega arith)
+no_reply : (first : ℕ) (l : Log) (es : List Ending) (b : Book) (c : Call) → Mirrors first l es b → fits b c ≡ false → reply l c ≡ None
+no_reply first l es (opened a) (issue m ps) free not_so = let z : ◌≡◌ {A = ℕ} 0 1 = cc in absurd (omega arith)
+no_reply first l es (opened a) carry_out free not_so = ap (λ z. reply z carry_out) free.is
+no_reply first l es (opened a) (report m k) free not_so = ap (λ z. reply z (report m k)) free.is
+no_reply first l es (issued o) (issue m ps) out not_so = ap (λ z. reply z (issue m ps)) out.is
+no_reply first l es (issued o) carry_out out not_so = let z : ◌≡◌ {A = ℕ} 0 1 = cc in absurd (omega arith)
+no_reply first l es (issued o) (report m k) out not_so = ap (λ z. reply z (report m k)) out.is
+no_reply first l es (on_air w) (issue m ps) flying not_so = ap (λ z. reply z (issue m ps)) flying.is
+no_reply first l es (on_air w) carry_out flying not_so = ap (λ z. reply z carry_out) flying.is
+no_reply first l es (on_air w) (report m k) flying not_so = let z : ◌≡◌ {A = ℕ} 0 1 = cc in absurd (omega arith)
 
 -- what a call is told is the log's reply, and the past goes on where there is one
 step : (first : ℕ) (es : List Event) (b d : Book) (c : Call) (r : Option Answer) → Past first es b → Answered b c r d → IfSome r (λ a. Continues b (event_of c a) d)
     → (reply (log_of first es) c ≡ option_map reply_of r) × Past first (with_event c (option_map reply_of r) es) d
 step first es b d c None past answered goes_on =
-    (no_reply first (log_of first es) b c (mirrored first es b past).1 answered.0, subst (Past first es) (sym answered.1) past)
+    (no_reply first (log_of first es) (endings_of es) b c (mirrored first es b past).1 answered.0, subst (Past first es) (sym answered.1) past)
 step first es b d c (Some a) past answered goes_on = let so = goes_on first es past in (so.1.answered.0, so.0)
 
 -- one window more where one is told to be on air
@@ -163,6 +163,7 @@ through m first calls old new b n end least inside =
     let same : log_of first es ≡ log_after (start first) cs = log_of_events first [] cs in
     let so = goes_on_so first es b end.past in
     let all : cs ≡ with_room m calls old = ap (map (asked m)) (take_min n (length old) calls least) in
+    let known = so.1.known m inside (all_beside m (take n calls) [] (log_replies (start first) cs) tt) in
     let agrees : Agrees (log_after (start first) cs) b = subst (λ l. Agrees l b) same so.1.agrees in
     record {
       told = end.told;
@@ -171,8 +172,10 @@ through m first calls old new b n end least inside =
         replies = end.replies ∙ ap (λ z. log_replies (start first) z) all;
         agrees = subst (λ z. Agrees (log_after (start first) z) b) all agrees;
         windows = (log_after (start first) cs).notes;
-        of_plant = subst (λ l. EachOf m l.notes) same (so.1.known m inside (all_beside m (take n calls) [] (log_replies (start first) cs) tt)).1;
-        accounted = subst (λ l. AccountFor first l.notes b) same so.1.accounted;
+        of_plant = subst (λ l. EachOf m l.notes) same known.1;
+        ended = subst (λ z. EachEndedBeside m (endings_of (fitting first z))) all known.2;
+        accounted = subst (λ z. AccountFor first (log_after (start first) cs).notes (endings_of (fitting first z)) b) all
+            (subst (λ l. AccountFor first l.notes (endings_of es) b) same so.1.accounted);
         booked = agrees.windows;
         seconds = agrees.seconds;
         cents = agrees.cents;

@@ -3,10 +3,8 @@ use Rattle.std.specs.Prelude.{◌≡◌, ◌≢◌, ℕ, ◌+◌, ◌<◌, ◌�
 use Rattle.interface.specs.declared.plant.Outcome.{Outcome}
 use Rattle.interface.specs.Limits.{most_windows}
 use Rattle.interface.specs.Plants.{Model, Lawful, named, outcomes_of}
-use Rattle.bookkeeping.specs.declared.stage.Stage.{Stage}
-use Rattle.bookkeeping.specs.declared.stage.Stage.TheVariants.{Open, Issued, OnAir}
-use Rattle.bookkeeping.specs.Books.{Account, Order, Airing, Book, opened, issued, on_air, account_of}
-use Rattle.bookkeeping.specs.Log.{Note, Log, Call, issue, carry_out, report, Reply, goes_on, refused, Agrees}
+use Rattle.bookkeeping.specs.Books.{Order, Book, opened, issued, on_air, account_of}
+use Rattle.bookkeeping.specs.Log.{Note, Call, issue, carry_out, report, Reply, goes_on, refused, Agrees}
 use Rattle.bookkeeping.specs.Pasts.{Event, Past, log_of, EachAnswered}
 
 -- Whether a call was accepted, and of which kind it was.
@@ -78,30 +76,46 @@ HoldsNamed es (issued o) = IsNamed es o.account.state o.portfolio
 HoldsNamed es (on_air w) = IsNamed es w.account.state w.portfolio
 
 -- A window's portfolio is feasible in its state beside its plant.
-abbrev pub IsFeasible : Note → Type 0
-IsFeasible w = w.plant.feasible w.state w.portfolio ≡ true
+pub record Allowed (w : Note) : Type 0 where
+  pub lawful : Lawful w.plant
+  pub feasible : w.plant.feasible w.state w.portfolio ≡ true
 
--- A window ended in an outcome, of some plant that allows it, that leads to this state.
-pub record LedTo (w : Note) (s : ℕ) : Type 0 where
+-- How a window ended: in the outcome of this number, beside this plant.
+pub record Ending : Type 0 where
   pub plant : Model
   pub number : ℕ
+
+-- The reports that were accepted, the newest first.
+abbrev pub endings_of : List Event → List Ending
+endings_of [] = []
+endings_of (e ∷ es) = ending_and e.call e.reply (endings_of es)
+  where
+    ending_and : Call → Reply → List Ending → List Ending
+    ending_and (report m k) (goes_on s) earlier = record { plant = m; number = k } ∷ earlier
+    ending_and c r earlier = earlier
+
+-- The outcome in which a window ended leads to this state.
+pub record LedTo (w : Note) (e : Ending) (s : ℕ) : Type 0 where
+  pub lawful : Lawful e.plant
   pub outcome : Outcome
-  pub there : slice_get (outcomes_of plant w.state w.portfolio) number ≡ Some outcome
+  pub there : slice_get (outcomes_of e.plant w.state w.portfolio) e.number ≡ Some outcome
   pub next : outcome.next ≡ s
 
--- A trail of windows, the newest first, from the state in which a book was made to the state in which it stands: each feasible,
--- and each in the state to which an outcome of the one before led.
-abbrev pub Trail : ℕ → List Note → ℕ → Type 0
-Trail first [] s = s ≡ first
-Trail first (w ∷ ws) s = IsFeasible w × LedTo w s × Trail first ws w.state
+-- A trail of windows and of how they ended, the newest first, from the state in which a book was made to the state in which it
+-- stands: each allowed, and each in the state to which the one before led.
+abbrev pub Trail : ℕ → List Note → List Ending → ℕ → Type 0
+Trail first [] [] s = s ≡ first
+Trail first (w ∷ ws) (e ∷ es) s = Allowed w × LedTo w e s × Trail first ws es w.state
+Trail first [] (e ∷ es) s = ⊥
+Trail first (w ∷ ws) [] s = ⊥
 
--- The windows account for a book: they are a trail to where it stands; of a window on air it is not yet told where it led.
-abbrev pub AccountFor : ℕ → List Note → Book → Type 0
-AccountFor first ws (opened a) = Trail first ws a.state
-AccountFor first ws (issued o) = Trail first ws o.account.state
-AccountFor first [] (on_air w) = ⊥
-AccountFor first (n ∷ ws) (on_air w) =
-    IsFeasible n × (n.state ≡ w.account.state) × (n.portfolio ≡ w.portfolio) × Trail first ws n.state
+-- The windows account for a book: they are a trail to where it stands; of a window on air it is not yet told how it ended.
+abbrev pub AccountFor : ℕ → List Note → List Ending → Book → Type 0
+AccountFor first ws es (opened a) = Trail first ws es a.state
+AccountFor first ws es (issued o) = Trail first ws es o.account.state
+AccountFor first [] es (on_air w) = ⊥
+AccountFor first (n ∷ ws) es (on_air w) =
+    Allowed n × (n.state ≡ w.account.state) × (n.portfolio ≡ w.portfolio) × Trail first ws es n.state
 
 -- An issue is refused for want of a window exactly when so many windows as a book takes lie before it.
 abbrev pub FullExactly : List Event → Type 0
@@ -123,66 +137,21 @@ abbrev pub EachOf : Model → List Note → Type 0
 EachOf m [] = ⊤
 EachOf m (w ∷ ws) = (w.plant ≡ m) × EachOf m ws
 
+abbrev pub EachEndedBeside : Model → List Ending → Type 0
+EachEndedBeside m [] = ⊤
+EachEndedBeside m (e ∷ es) = (e.plant ≡ m) × EachEndedBeside m es
+
 abbrev pub NoneUnknown : List Event → Type 0
 NoneUnknown [] = ⊤
 NoneUnknown (e ∷ es) = ((p : ℕ) → e.reply ≢ refused 21 p) × NoneUnknown es
-
--- The accepted orders of a past, each a plant and a policy, and the accepted reports, each a plant and an outcome number, the newest
--- first.
-abbrev pub orders_of : List Event → List (Model × List ℕ)
-orders_of [] = []
-orders_of (e ∷ es) = with_order e.call e.reply (orders_of es)
-  where
-    with_order : Call → Reply → List (Model × List ℕ) → List (Model × List ℕ)
-    with_order (issue m ps) (goes_on s) os = (m, ps) ∷ os
-    with_order c r os = os
-
-abbrev pub reports_of : List Event → List (Model × ℕ)
-reports_of [] = []
-reports_of (e ∷ es) = with_report e.call e.reply (reports_of es)
-  where
-    with_report : Call → Reply → List (Model × ℕ) → List (Model × ℕ)
-    with_report (report m k) (goes_on s) rs = (m, k) ∷ rs
-    with_report c r rs = rs
-
--- A window is what an order makes of a state: the order's plant, that state, and the policy's entry for it.
-pub record IsOrdered (w : Note) (o : Model × List ℕ) (s : ℕ) : Type 0 where
-  pub plant : w.plant ≡ o.0
-  pub state : w.state ≡ s
-  pub entry : w.portfolio ≡ named o.1 s
-
--- A report ends a window in this state: where the reported outcome leads.
-pub record Ended (w : Note) (r : Model × ℕ) (s : ℕ) : Type 0 where
-  pub outcome : Outcome
-  pub there : slice_get (outcomes_of r.0 w.state w.portfolio) r.1 ≡ Some outcome
-  pub next : outcome.next ≡ s
-
--- So many orders and reports make these windows, the newest first, from one state to another.
-abbrev pub Made : ℕ → List (Model × List ℕ) → List (Model × ℕ) → List Note → ℕ → Type 0
-Made first [] [] [] s = s ≡ first
-Made first (o ∷ os) (r ∷ rs) (w ∷ ws) s = IsOrdered w o w.state × Ended w r s × Made first os rs ws w.state
-Made first os rs ws s = ⊥
-
--- The orders and reports make a log: its notes are their windows, and it stands where the last report led, or at the first state. What is
--- held is the window that the last order makes there; on air it is noted too.
-abbrev pub MakesAt : ℕ → List (Model × List ℕ) → List (Model × ℕ) → Stage → ℕ → Option Note → List Note → Type 0
-MakesAt first os rs Open s None ws = Made first os rs ws s
-MakesAt first (o ∷ os) rs Issued s (Some h) ws = IsOrdered h o s × Made first os rs ws s
-MakesAt first (o ∷ os) rs OnAir s (Some h) (w ∷ ws) = (w ≡ h) × IsOrdered h o s × Made first os rs ws s
-MakesAt first os rs stage s h ws = ⊥
-
-abbrev pub Makes : ℕ → List (Model × List ℕ) → List (Model × ℕ) → Log → Type 0
-Makes first os rs l = MakesAt first os rs l.stage l.state l.held l.notes
 
 -- What holds of every past of a book.
 pub record Kept (first : ℕ) (es : List Event) (b : Book) : Type 0 where
   -- each reply is the log's, and the book shows what the log says
   pub answered : EachAnswered first es
   pub agrees : Agrees (log_of first es) b
-  -- the log is what the accepted orders and reports make of the first state
-  pub makes : Makes first (orders_of es) (reports_of es) (log_of first es)
-  -- nothing infeasible was carried out, and the windows lead from the first state to where the book stands
-  pub accounted : AccountFor first (log_of first es).notes b
+  -- nothing infeasible was carried out, and the windows lead by the reports from the first state to where the book stands
+  pub accounted : AccountFor first (log_of first es).notes (endings_of es) b
   pub windows : (account_of b).windows ≡ windows_of es
   pub turns : TakesTurns es b
   pub held : HoldsNamed es b
@@ -190,8 +159,9 @@ pub record Kept (first : ℕ) (es : List Event) (b : Book) : Type 0 where
   -- a refused call could be left out, and nothing after it would differ
   pub without_refused : Past first (filter is_accepted es) b
   pub same_log : log_of first (filter is_accepted es) ≡ log_of first es
-  -- beside one plant no call is told that the plant does not know its state, and each window is one of that plant
-  pub known : (m : Model) → first < m.states → AllBeside m es → NoneUnknown es × EachOf m (log_of first es).notes
+  -- beside one plant no call is told that the plant does not know its state, and windows and reports are of that plant
+  pub known : (m : Model) → first < m.states → AllBeside m es
+      → NoneUnknown es × EachOf m (log_of first es).notes × EachEndedBeside m (endings_of es)
 
 -- A past goes on to a book, and all that is kept of it holds.
 abbrev pub GoesOn : ℕ → List Event → Book → Type 0

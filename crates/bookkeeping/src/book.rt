@@ -1,3 +1,5 @@
+//! A book at its three stages: open, issued and on air. Each call uses it up and makes the next of
+//! its numbers, so the three stand together.
 ghost use Rattle.std.specs.Prelude.{◌≡◌, ℕ, ◌<◌, ◌↔◌, [], true, IsOk, IfOk, IfErr};
 ghost use Rattle.interface.specs.Plants.{Model, named};
 ghost use Rattle.bookkeeping.specs.Books.{Account, Order, Airing, opened, issued, on_air, fresh, aired};

@@ -6,3 +6,5 @@ pub mod refusal;
 pub mod run;
 pub mod stage;
 pub mod standing;
+#[cfg(test)]
+mod tests;

@@ -1,3 +1,4 @@
+//! Why a call of a book is refused.
 ghost use Rattle.std.specs.Prelude.{◌≡◌};
 ghost use Rattle.bookkeeping.specs.Refusals.{number_of, place_of};
 

@@ -1,3 +1,4 @@
+//! A run of calls of one book beside one plant.
 ghost use Rattle.std.specs.Prelude.{◌≡◌, ◌↔◌, ℕ, ◌<◌, IsOk, IfOk, OnErr};
 ghost use Rattle.bookkeeping.specs.Calls.{MakeRefused};
 ghost use Rattle.bookkeeping.specs.Results.{IsNotMade};
@@ -25,6 +26,7 @@ pub fn run<P: Plant>(
         RanInto (P.model plant.now) state calls.now answers.old answers.new (book_of book)) }
 {
     let mut book = Standing::Open(Open::make(plant, state)?);
+    // By index: over `iter().zip(iter_mut())` no invariant can name what the space holds.
     for at in 0..calls.len().min(answers.len()) {
         let (next, answer) = book.call(plant, &calls[at]);
         book = next;

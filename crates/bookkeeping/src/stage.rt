@@ -1,3 +1,4 @@
+//! The stages of a book.
 /// Where a book stands: open for an order, with its order issued, or with its window on air.
 #[derive(Clone, Copy, PartialEq, Eq, Debug)]
 pub enum Stage {

@@ -1,3 +1,4 @@
+//! A book at any stage, what is asked of it and what it is told.
 ghost use Rattle.std.specs.Prelude.{◌≡◌, ◌↔◌, true, IsSome, IfSome};
 ghost use Rattle.std.specs.Option.{option_map};
 ghost use Rattle.bookkeeping.specs.Books.{account_of, held_by};

@@ -1,5 +1,5 @@
 -- The portfolios of a state, one after the other: low holds of each so far, and the gain of the policy's is kept in passing.
-use Rattle.std.proofs.Common.{◌≡◌, ℕ, ◌+◌, ◌<◌, ◌≤◌, ◌≢◌, Bool, true, false, cond, List, Some, None, Option, sym, ap, ◌∙◌, add-one, arith}
+use Rattle.std.proofs.Common.{◌≡◌, ℕ, ◌<◌, true, false, cond, List, Some, None, Option, sym, ap, ◌∙◌}
 use Rattle.std.specs.Option.{option_map}
 use Rattle.interface.specs.Plants.{Model, Lawful, named}
 use Rattle.interface.specs.Rows.{Row}

@@ -1,5 +1,5 @@
 -- From the first test that fails to the rule and its place, and back.
-use Rattle.std.proofs.Common.{◌≡◌, ℕ, ◌<◌, ◌≤◌, Bool, true, false, cond, ◌&&◌, eqb, leb, List, length, Some, None, Option, sym, refl, ap, ◌∙◌, subst, ⊎_elim, arith}
+use Rattle.std.proofs.Common.{◌≡◌, ℕ, Bool, true, false, cond, ◌&&◌, eqb, leb, List, length, Some, None, sym, refl, ap, ◌∙◌, subst, ⊎_elim, arith}
 use Rattle.std.proofs.lemmas.Bool.{cases_Bool, and_parts, and_from, leb-true, leb-false, le-leb, lt-leb, eqb-true, eq-eqb, cond-true, both_ways}
 use Rattle.interface.specs.Plants.{Model, Lawful, named}
 use Rattle.interface.specs.Rows.{Row, reach}
@@ -8,7 +8,7 @@ use Rattle.interface.specs.Limits.{most_value, most_claim}
 use Rattle.lookahead.specs.Gains.{value_of, gain, Within}
 use Rattle.certificate.specs.declared.refusal.Refusal.{Refusal}
 use Rattle.certificate.specs.declared.refusal.Refusal.TheVariants.{WrongLength, BeyondReach, Infeasible, LowBroken, HighBroken}
-use Rattle.certificate.specs.Reasons.{Level, ClaimsNear, FarValue, Holds, Before, LowFails, HighFails, FirstInfeasible}
+use Rattle.certificate.specs.Reasons.{Level, ClaimsNear, FarValue, Before, LowFails}
 use Rattle.certificate.specs.RecipeRefusedAs.{RecipeRefusedAs, by_length as recipe_by_length, by_value as recipe_by_value, by_policy as recipe_by_policy}
 use Rattle.certificate.specs.Recipes.{policy_fault, recipe_refusal}
 use Rattle.certificate.specs.RefusedAs.{RefusedAs, by_length, by_claim, by_value, by_policy, by_low, by_high}

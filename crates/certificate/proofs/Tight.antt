@@ -8,7 +8,7 @@ use Rattle.lookahead.specs.Gains.{gain}
 use Rattle.lookahead.proofs.Bounds.{EachFit, gain_reach}
 use Rattle.lookahead.proofs.Leasts.{gain_fits}
 use Rattle.certificate.specs.Certificates.{Sound}
-use Rattle.certificate.specs.ExactClaims.{Claimable, NoTighter, Tightest}
+use Rattle.certificate.specs.ExactClaims.{Claimable, Tightest}
 use Rattle.certificate.specs.Recipes.{Lowest, Highest, Fitting}
 
 module _ (m : Model) (lawful : Lawful m) (t : Scale) (scaled : LawfulScale t) (vs : List Row) (fit : EachFit t.places vs) (ps : List ℕ) (ready : Fitting m vs ps)

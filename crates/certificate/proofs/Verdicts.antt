@@ -1,5 +1,5 @@
 -- What the answer of the check says, and that of the recipe, in the words of their laws.
-use Rattle.std.proofs.Common.{◌≡◌, ◌↔◌, ℕ, true, List, map, Some, None, Ok, Err, Option, Result, sym, refl, ap, ◌∙◌, subst, arith}
+use Rattle.std.proofs.Common.{◌≡◌, ◌↔◌, ℕ, List, map, Some, None, Ok, Err, Option, Result, refl, ap, ◌∙◌, subst, arith}
 use Rattle.std.specs.Result.{IsOk, IfOk, IfErr}
 use Rattle.interface.specs.Plants.{Model, Lawful}
 use Rattle.interface.specs.Rows.{Row}
@@ -11,9 +11,9 @@ use Rattle.certificate.specs.Claims.{Recipe}
 use Rattle.certificate.specs.ExactClaims.{Claimable, NoTighter, Tightest}
 use Rattle.certificate.specs.Findings.{Verdict}
 use Rattle.certificate.specs.RecipeRefusedAs.{RecipeRefusedAs}
-use Rattle.certificate.specs.Recipes.{Lowest, Highest, Fitting, recipe_refusal}
+use Rattle.certificate.specs.Recipes.{Lowest, Highest, Fitting}
 use Rattle.certificate.specs.RefusedAs.{RefusedAs, IsRefused}
-use Rattle.certificate.specs.Refusals.{refusal, number_of, place_of}
+use Rattle.certificate.specs.Refusals.{number_of, place_of}
 use Rattle.certificate.specs.declared.finding.Finding.{Finding}
 use Rattle.certificate.specs.declared.refusal.Refusal.{Refusal}
 use Rattle.certificate.proofs.Reasons.{reason_from, reason_to, recipe_reason_from, recipe_reason_to}

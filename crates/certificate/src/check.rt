@@ -1,5 +1,6 @@
 // The check of a certificate.
-ghost use Rattle.std.specs.Prelude.{◌≡◌, ◌↔◌, ℕ, List, Some, ◌&&◌, map, length, ◌==◌, nat_le, IsOk, IfErr};
+ghost use Rattle.std.specs.Prelude.{◌≡◌, ◌↔◌, ℕ, List, Some, map, length, IsOk, IfErr};
+ghost use Rattle.std.specs.Prelude.{◌&&◌, ◌==◌, nat_le};
 ghost use Rattle.std.specs.Result.{result_err};
 ghost use Rattle.interface.specs.Rows.{reach};
 ghost use Rattle.interface.specs.Limits.{most_claim};
@@ -9,7 +10,8 @@ ghost use Rattle.certificate.specs.Certificates.{Sound};
 ghost use Rattle.certificate.specs.ExactClaims.{AcceptsNoTighter};
 ghost use Rattle.certificate.specs.Findings.{Verdict};
 ghost use Rattle.certificate.specs.RefusedAs.{RefusedAs, IsRefused};
-ghost use Rattle.certificate.specs.Refusals.{refusal, first_fault, value_fault, state_fault, number_of, place_of};
+ghost use Rattle.certificate.specs.Refusals.{refusal, first_fault, value_fault, state_fault};
+ghost use Rattle.certificate.specs.Refusals.{number_of, place_of};
 
 use crate::finding;
 use crate::finding::Finding;
@@ -47,14 +49,17 @@ fn gain_of<P: Plant, T: Tariff>(
     portfolio: usize,
 ) -> T::Amount
     requires { bill_of (P.model valued.now.plant.now) state portfolio ≡ Some bill }
-    ensures { T.Tariff.row result ≡ gain (P.model valued.now.plant.now) (T.scale valued.now.tariff.now)
+    ensures { T.Tariff.row result ≡ gain (P.model valued.now.plant.now)
+        (T.scale valued.now.tariff.now)
         (map T.Tariff.row valued.now.table.amounts.now) state portfolio }
 {
     valued.gain_of(bill, state, portfolio).unwrap()
 }
 
-// The tests of a state, for which the policy names the portfolio. Whether a pair is feasible is asked first, and of a feasible
-// pair alone its bill and its outcomes, each once: the gain of the policy's portfolio is kept as it comes by.
+// The tests of a state, for which the policy names the portfolio. Whether a pair is feasible is
+// asked first, and of a feasible pair alone its bill and its outcomes, each once: the gain of the
+// policy's portfolio is kept as it comes by.
+#[tactic(auto, using(crate::proofs::Passing::low_broken))]
 fn state_holds<P: Plant, T: Tariff>(
     valued: &ValuedPlant<P, T>,
     claims: &Claims<T::Amount>,
@@ -161,7 +166,8 @@ pub fn check<P: Plant, T: Tariff>(
     policy: &[u16],
     claims: Claims<T::Amount>,
 ) -> Result<Finding<T::Amount>, Refusal>
-    ensures verdict { Verdict T.Tariff.row (P.model plant.now) (T.scale tariff.now) (map T.Tariff.row values.now)
+    ensures verdict { Verdict T.Tariff.row (P.model plant.now) (T.scale tariff.now)
+        (map T.Tariff.row values.now)
         policy.now claims.low claims.high result }
     // accepted exactly when sound
     ensures exact { IsOk result
@@ -177,7 +183,8 @@ pub fn check<P: Plant, T: Tariff>(
         ↔ RefusedAs (P.model plant.now) (T.scale tariff.now) (map T.Tariff.row values.now)
         policy.now (T.Tariff.row claims.low) (T.Tariff.row claims.high) n p }
     // accepted exactly when the claims are no tighter than the recipe's
-    ensures no_tighter { AcceptsNoTighter (P.model plant.now) (T.scale tariff.now) (map T.Tariff.row values.now)
+    ensures no_tighter { AcceptsNoTighter (P.model plant.now) (T.scale tariff.now)
+        (map T.Tariff.row values.now)
         policy.now (T.Tariff.row claims.low) (T.Tariff.row claims.high) result }
 {
     let table = ValueTable::new(values);

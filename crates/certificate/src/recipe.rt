@@ -8,7 +8,8 @@ ghost use Rattle.certificate.specs.Certificates.{Sound};
 ghost use Rattle.certificate.specs.Claims.{Recipe};
 ghost use Rattle.certificate.specs.ExactClaims.{Tightest};
 ghost use Rattle.certificate.specs.RecipeRefusedAs.{RecipeRefusedAs};
-ghost use Rattle.certificate.specs.Recipes.{Fitting, state_low, policy_gain, policy_fault, recipe_refusal};
+ghost use Rattle.certificate.specs.Recipes.{Fitting, state_low, policy_gain, policy_fault};
+ghost use Rattle.certificate.specs.Recipes.{recipe_refusal};
 ghost use Rattle.certificate.specs.RefusedAs.{IsRefused};
 ghost use Rattle.certificate.specs.Refusals.{first_fault, number_of, place_of};
 
@@ -21,9 +22,11 @@ use lookahead::best::{Aim, Choice};
 use lookahead::table::ValueTable;
 use lookahead::valued::ValuedPlant;
 
-// Refused by the first state whose portfolio is not feasible. The index is the state, and the place of the refusal.
+// Refused by the first state whose portfolio is not feasible. The index is the state, and the place
+// of the refusal.
 fn policy_holds<P: Plant>(plant: &P, policy: &[u16]) -> Result<(), Refusal>
-    ensures { result_err result ≡ first_fault (policy_fault (P.model plant.now) policy.now) (length policy.now) }
+    ensures { result_err result ≡ first_fault (policy_fault (P.model plant.now) policy.now)
+        (length policy.now) }
 {
     for (state, portfolio) in policy.iter().enumerate() {
         if !plant.feasible(state, usize::from(*portfolio)) {
@@ -104,18 +107,20 @@ fn inputs_hold<P: Plant, T: Tariff>(
     policy_holds(plant, policy)
 }
 
-/// The claims that a value table and a policy allow: the least gain of all feasible portfolios and the
-/// greatest of the policy's.
+/// The claims that a value table and a policy allow: the least gain of all feasible portfolios and
+/// the greatest of the policy's.
 pub fn recipe<P: Plant, T: Tariff>(
     plant: &P,
     tariff: &T,
     values: &[T::Amount],
     policy: &[u16],
 ) -> Result<Claims<T::Amount>, Refusal>
-    ensures answer { Recipe T.Tariff.row (P.model plant.now) (T.scale tariff.now) (map T.Tariff.row values.now)
+    ensures answer { Recipe T.Tariff.row (P.model plant.now) (T.scale tariff.now)
+        (map T.Tariff.row values.now)
         policy.now result }
     // there is a recipe exactly when the tables fit
-    ensures exact { IsOk result ↔ Fitting (P.model plant.now) (map T.Tariff.row values.now) policy.now }
+    ensures exact { IsOk result ↔ Fitting (P.model plant.now) (map T.Tariff.row values.now)
+        policy.now }
     // what is refused is refused by a rule that is broken, at its place
     ensures refused { IfErr result (λ e.
         RecipeRefusedAs (P.model plant.now) (T.scale tariff.now) (map T.Tariff.row values.now)

@@ -16,7 +16,7 @@ use Rattle.request.specs.Writing.{tariff_line, ReadsTariff, ReadsSweeps, ReadsEn
 use Rattle.reply.specs.declared.answer.Unanswered.{Unanswered}
 use Rattle.reply.specs.declared.answer.Unanswered.TheVariants.{Refused, NoMemory}
 use Rattle.reply.specs.Replies.{Reply, scale_of}
-use Rattle.service.specs.Services as service
+use Rattle.desk.specs.Talks.{Talk}
 use Rattle.desk.specs.Opening.{Followed, FollowedBehind, FollowedText, Opened}
 
 -- what holds of an opening holds of what follows from it
@@ -26,7 +26,7 @@ follows (Err (Refused e)) f g k h = f (Err e) h
 follows (Err NoMemory) f g k h = g h
 
 -- what followed the plant
-pub behind : (m : Model) (talk : service.Talk) (text rest rest' : List ℕ) (c : TariffChoice) (s : SweepsLine) → ReadsTariff text (Ok c) rest → ReadsSweeps rest (Ok s.count) rest' → ReadsEnd rest' (Ok tt) → Followed m (scale_of c) s.count talk → FollowedBehind m text talk
+pub behind : (m : Model) (talk : Talk) (text rest rest' : List ℕ) (c : TariffChoice) (s : SweepsLine) → ReadsTariff text (Ok c) rest → ReadsSweeps rest (Ok s.count) rest' → ReadsEnd rest' (Ok tt) → Followed m (scale_of c) s.count talk → FollowedBehind m text talk
 behind m talk text rest rest' c s first second last h =
     let t = (first c rest).0 (refl, refl) in
     let n = (second s.count rest').0 (refl, refl) in
@@ -40,7 +40,7 @@ behind m talk text rest rest' c s first second last h =
     }
 
 -- a plant with what should follow it
-pub chain_followed : (talk : service.Talk) (text start rest : List ℕ) → start ≡ text → (c : Chain) → ReadsFrom start (Ok c.numbers) rest → FollowedBehind (chain_model c.numbers c.least) rest talk → FollowedText text talk
+pub chain_followed : (talk : Talk) (text start rest : List ℕ) → start ≡ text → (c : Chain) → ReadsFrom start (Ok c.numbers) rest → FollowedBehind (chain_model c.numbers c.least) rest talk → FollowedText text talk
 chain_followed talk text start rest is c law t =
     let begins = subst (λ s. BeginsChain s c.numbers rest) is ((law c.numbers rest).0 (refl, refl)) in
     record {
@@ -51,7 +51,7 @@ chain_followed talk text start rest is c law t =
       followed = t.followed;
     }
 
-pub pair_followed : (talk : service.Talk) (text start rest : List ℕ) → start ≡ text → (p : Pair) → ReadsPair start (Ok p.numbers) rest → FollowedBehind (pair_model p.numbers) rest talk → FollowedText text talk
+pub pair_followed : (talk : Talk) (text start rest : List ℕ) → start ≡ text → (p : Pair) → ReadsPair start (Ok p.numbers) rest → FollowedBehind (pair_model p.numbers) rest talk → FollowedText text talk
 pair_followed talk text start rest is p law t =
     let begins = subst (λ s. BeginsPair s p.numbers rest) is ((law p.numbers rest).0 (refl, refl)) in
     record {

@@ -10,7 +10,7 @@ use Rattle.desk.specs.declared.asking.Due.{Due}
 use Rattle.desk.specs.Asking.{asked}
 use Rattle.desk.specs.Histories.{newest}
 use Rattle.desk.proofs.HistoryLaws.{newest-append}
-use Rattle.desk.specs.Talks.{Talk, asks_by, asks_in, hears_in, says_in, heard_after, said_from, IsTalk}
+use Rattle.desk.specs.Talks.{Talk, asks_by, turns_in, hears_in, says_in, heard_after, said_from, IsTalk}
 use Rattle.arrayvec.specs.ArrayVec.{ArrayVec}
 use Rattle.reading.specs.declared.rules.Rule.{Rule}
 
@@ -54,5 +54,5 @@ pub begins : (heard said : List (List ℕ)) → ∥ IsTalk heard said [] ∥₁
 begins heard said = ∣ record { heard_before = heard; said_before = said; heard_all = refl; said_all = refl } ∣₁
 
 -- what is asked and told when a line is heard
-pub asks_heard : (ts ts' : Talk) (d : Due) (line : ArrayVec ℕ) (r : Result Ask Rule) → ts' ≡ ts ++ (Heard d line, tt) ∷ [] → r ≡ asked d line.items → newest asks_in ts' ≡ asks_by r ++ newest asks_in ts
-asks_heard ts ts' d line r is e = ap (newest asks_in) is ∙ newest-append asks_in ts (Heard d line, tt) ∙ ap (λ a. asks_by a ++ newest asks_in ts) (sym e)
+pub asks_heard : (ts ts' : Talk) (d : Due) (line : ArrayVec ℕ) (r : Result Ask Rule) → ts' ≡ ts ++ (Heard d line, tt) ∷ [] → r ≡ asked d line.items → newest turns_in ts' ≡ asks_by r ++ newest turns_in ts
+asks_heard ts ts' d line r is e = ap (newest turns_in) is ∙ newest-append turns_in ts (Heard d line, tt) ∙ ap (λ a. asks_by a ++ newest turns_in ts) (sym e)

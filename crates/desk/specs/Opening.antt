@@ -1,5 +1,5 @@
 -- What comes of a request that is followed at a desk.
-use Rattle.std.specs.Prelude.{◌≡◌, ℕ, ◌≤◌, List, [], ◌++◌, Option, Ok, Err, Result}
+use Rattle.std.specs.Prelude.{◌≡◌, ℕ, ◌≤◌, List, [], ◌∷◌, ◌++◌, Option, Ok, Err, Result}
 use Rattle.bookkeeping.specs.Books.{Book}
 use Rattle.certificate.specs.Certificates.{Sound, Top, Bottom}
 use Rattle.certificate.specs.ExactClaims.{Tightest}
@@ -17,21 +17,13 @@ use Rattle.reply.specs.declared.answer.Unanswered.{Unanswered}
 use Rattle.reply.specs.declared.answer.Unanswered.TheVariants.{Refused, NoMemory}
 use Rattle.reply.specs.Laws.{IsRequest}
 use Rattle.reply.specs.Replies.{Reply, scale_of}
-use Rattle.service.specs.Services as service
+use Rattle.service.specs.Services.{Serves, shows}
 use Rattle.desk.specs.Histories.{newest}
-use Rattle.desk.specs.Talks.{Talk, asks_in, tells_in}
+use Rattle.desk.specs.Talks.{Talk, turns_in, shows_in, WasShown}
 
--- What was asked and told in a talk, in the words of the service.
-abbrev pub service_of : Talk → service.Talk
-service_of ts = record { asked = newest asks_in ts; told = newest tells_in ts }
-
--- Nothing was asked or told.
-abbrev pub silence : service.Talk
-silence = record { asked = []; told = [] }
-
--- A plan after so many sweeps was followed: it is a sound certificate, its claims are the tightest that the check accepts, no rival costs
--- less than they allow, and what was asked and told is the whole past of a book, and its log, if one was made.
-pub record Followed (m : Model) (t : Scale) (sweeps : ℕ) (talk : service.Talk) : Type 0 where
+-- A plan after so many sweeps was followed in a talk: it is a sound certificate, its claims are the tightest that the check accepts, no rival
+-- costs less than they allow, its finding was shown, and what then passed is the whole past of a book, and its log, if one was made.
+pub record Followed (m : Model) (t : Scale) (sweeps : ℕ) (talk : Talk) : Type 0 where
   pub values : List Row
   pub policy : List ℕ
   pub low : Row
@@ -45,10 +37,11 @@ pub record Followed (m : Model) (t : Scale) (sweeps : ℕ) (talk : service.Talk)
   pub least : Bottom m t values bottom
   pub tightest : Tightest m t values policy low high
   pub bound : Promise m t (always policy) low high top bottom
-  pub past : service.Serves m policy silence talk book
+  pub shown : WasShown (newest shows_in talk) (low ∷ high ∷ top ∷ bottom ∷ [])
+  pub past : Serves m policy (shows ∷ []) (newest turns_in talk) book
 
 -- So is the plan of a plant, by the tariff and the number of sweeps that stand behind it.
-pub record FollowedBehind (m : Model) (text : List ℕ) (talk : service.Talk) : Type 0 where
+pub record FollowedBehind (m : Model) (text : List ℕ) (talk : Talk) : Type 0 where
   pub tariff : TariffChoice
   pub sweeps : ℕ
   pub whole : text ≡ tariff_line tariff ++ number_line Sweeps sweeps
@@ -57,7 +50,7 @@ pub record FollowedBehind (m : Model) (text : List ℕ) (talk : service.Talk) : 
   pub followed : Followed m (scale_of tariff) sweeps talk
 
 -- The text is a request, and its plan was followed.
-pub record FollowedText (text : List ℕ) (talk : service.Talk) : Type 0 where
+pub record FollowedText (text : List ℕ) (talk : Talk) : Type 0 where
   pub plant : Model
   pub tariff : TariffChoice
   pub sweeps : ℕ

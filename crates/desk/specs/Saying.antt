@@ -12,6 +12,7 @@ use Rattle.plantext.specs.Lines.{line, amount}
 use Rattle.service.specs.Services as service
 use Rattle.desk.specs.declared.saying.Claim.{Claim}
 use Rattle.desk.specs.declared.saying.Claim.TheVariants.{Low, High, Top, Bottom}
+use Rattle.desk.specs.declared.saying.FindingLines.{FindingLines}
 use Rattle.desk.specs.declared.saying.Shown.{Shown}
 use Rattle.desk.specs.declared.saying.Told.{Told}
 use Rattle.desk.specs.declared.saying.Told.TheVariants.{NotMade, Answered}
@@ -75,3 +76,12 @@ shown_of s = record { account = account s.state s.windows s.seconds s.cents; hel
 abbrev pub told_of : Told → service.Told
 told_of (NotMade why) = record { reply = refused (number_of why) (place_of why); shown = None }
 told_of (Answered answer s) = record { reply = reply_of answer; shown = Some (shown_of s) }
+
+-- The lines of a finding, the newest first: bottom, top, high, low.
+abbrev pub lines_of : FindingLines → List (List ℕ)
+lines_of f = f.bottom.bytes.items ∷ f.top.bytes.items ∷ f.high.bytes.items ∷ f.low.bytes.items ∷ []
+
+-- So as they are written of rows, which are those of low, high, top and bottom.
+abbrev pub finding_lines : List Row → List (List ℕ)
+finding_lines (low ∷ high ∷ top ∷ bottom ∷ []) = claim_line Bottom bottom ∷ claim_line Top top ∷ claim_line High high ∷ claim_line Low low ∷ []
+finding_lines rows = []

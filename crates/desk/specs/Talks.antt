@@ -9,10 +9,8 @@ use Rattle.desk.specs.declared.talk.Turn.{Turn}
 use Rattle.desk.specs.declared.talk.Turn.TheVariants.{Heard, Told, Shown}
 use Rattle.desk.specs.Asking.{asked}
 use Rattle.desk.specs.Histories.{History, newest}
-use Rattle.desk.specs.Saying.{claim_line, refusal_line, told_line, told_of}
-use Rattle.desk.specs.declared.saying.Claim.TheVariants.{Low, High, Top, Bottom}
+use Rattle.desk.specs.Saying.{refusal_line, told_line, told_of, lines_of, finding_lines}
 use Rattle.interface.specs.Rows.{Row}
-use Rattle.certificate.specs.declared.finding.Finding.{Finding}
 
 -- The turns of a talk, the oldest first.
 abbrev pub Talk : Type 0
@@ -26,41 +24,36 @@ ask_of CarryOut = service.to_carry_out
 ask_of (Outcome n) = service.to_report n
 
 -- A line asks what is due, or breaks a rule and is refused with its number.
-abbrev pub asks_by : Result Ask Rule → List service.Ask
-asks_by (Ok a) = ask_of a ∷ []
+abbrev pub asks_by : Result Ask Rule → List service.Turn
+asks_by (Ok a) = service.asks (ask_of a) ∷ []
 asks_by (Err rule) = []
 
 abbrev pub refuses_by : ℕ → Result Ask Rule → List (List ℕ)
 refuses_by n (Ok a) = []
 refuses_by n (Err rule) = refusal_line (number_of rule) n ∷ []
 
--- What is asked in a turn, and what is told.
-abbrev pub asks_in : Turn → List service.Ask
-asks_in (Heard d line) = asks_by (asked d line.items)
-asks_in (Told t) = []
-asks_in (Shown line) = []
-
-abbrev pub tells_in : Turn → List service.Told
-tells_in (Heard d line) = []
-tells_in (Told t) = told_of t ∷ []
-tells_in (Shown line) = []
+-- What a turn is in the words of the service.
+abbrev pub turns_in : Turn → List service.Turn
+turns_in (Heard d line) = asks_by (asked d line.items)
+turns_in (Told t) = service.tells (told_of t) ∷ []
+turns_in (Shown lines) = service.shows ∷ []
 
 -- The line that is heard in a turn, and the line that is said: the nth line that is heard is refused as line n.
 abbrev pub hears_in : Turn → List (List ℕ)
 hears_in (Heard d line) = line.items ∷ []
 hears_in (Told t) = []
-hears_in (Shown line) = []
+hears_in (Shown lines) = []
 
 abbrev pub says_in : ℕ → Turn → List (List ℕ)
 says_in n (Heard d line) = refuses_by n (asked d line.items)
 says_in n (Told t) = told_line (told_of t) ∷ []
-says_in n (Shown line) = line.bytes.items ∷ []
+says_in n (Shown lines) = lines_of lines
 
--- The line of a finding that is shown in a turn.
+-- The lines of the finding that is shown in a turn, the newest first.
 abbrev pub shows_in : Turn → List (List ℕ)
 shows_in (Heard d line) = []
 shows_in (Told t) = []
-shows_in (Shown line) = line.bytes.items ∷ []
+shows_in (Shown lines) = lines_of lines
 
 -- How many lines were heard after a turn.
 abbrev pub heard_after : ℕ → Turn → ℕ
@@ -72,7 +65,7 @@ said_from n [] = []
 said_from n (t ∷ ts) = said_from (heard_after n t.0) ts ++ says_in (heard_after n t.0) t.0
 
 -- What was asked before and after a line is heard, if one is.
-abbrev pub Hears : Option (Result Ask Rule) → List service.Ask → List service.Ask → Type 0
+abbrev pub Hears : Option (Result Ask Rule) → List service.Turn → List service.Turn → Type 0
 Hears None old new = new ≡ old
 Hears (Some asked) old new = new ≡ asks_by asked ++ old
 
@@ -85,11 +78,10 @@ pub record IsTalk (heard said : List (List ℕ)) (talk : Talk) : Type 0 where
   pub said_all : said ≡ said_from (length heard_before) talk ++ said_before
 
 -- What was asked before and after a desk waits for what is due, if it comes.
-abbrev pub Asks : Option Ask → List service.Ask → List service.Ask → Type 0
+abbrev pub Asks : Option Ask → List service.Turn → List service.Turn → Type 0
 Asks None old new = new ≡ old
-Asks (Some a) old new = new ≡ ask_of a ∷ old
+Asks (Some a) old new = new ≡ service.asks (ask_of a) ∷ old
 
--- The lines of a finding were shown, in this order: low, high, top and bottom.
-abbrev pub ShowsFinding : {A : Type 0} → (A → Row) → Finding A → List (List ℕ) → List (List ℕ) → Type 0
-ShowsFinding row f old new =
-    new ≡ claim_line Bottom (row f.bottom) ∷ (claim_line Top (row f.top) ∷ (claim_line High (row f.high) ∷ (claim_line Low (row f.low) ∷ old)))
+-- The last finding that was shown has these rows: its lines are the last that were shown.
+abbrev pub WasShown : List (List ℕ) → List Row → Type 0
+WasShown shown rows = (before : List (List ℕ)) × (shown ≡ finding_lines rows ++ before)

@@ -1,12 +1,12 @@
-ghost use Rattle.std.specs.Prelude.{◌≡◌, ◌+◌, ◌^◌, ◌<◌, true, false, [], ◌∷◌, length, IfNone, IfSome, IfOk};
-ghost use Rattle.service.specs.Services.{to_make, to_issue, to_carry_out, to_report, AsksIf, AsksFor};
+ghost use Rattle.std.specs.Prelude.{◌≡◌, ◌+◌, ◌-◌, ◌^◌, ◌<◌, true, [], ◌∷◌, ◌++◌, length, IfNone, IfSome, IfOk};
 ghost use Rattle.desk.specs.Asking.{Suits};
 ghost use Rattle.desk.specs.Histories.{newest};
-ghost use Rattle.desk.specs.Saying.{told_of};
-ghost use Rattle.desk.specs.Talks.{asks_in, tells_in, shows_in, Hears, Asks, IsTalk, ShowsFinding};
+ghost use Rattle.desk.specs.Saying.{told_of, lines_of};
+ghost use Rattle.desk.specs.Talks.{turns_in, shows_in, Hears, Asks, IsTalk, WasShown};
+ghost use Rattle.service.specs.Services.{shows, tells};
 
 use crate::asking::{Ask, Due, asked};
-use crate::saying::{Claim, Shown, Told, refusal_line};
+use crate::saying::{FindingLines, Shown, Told, refusal_line};
 use crate::talk::Turn;
 use crate::terminal::Terminal;
 use bookkeeping::refusal::Refusal;
@@ -14,7 +14,6 @@ use bookkeeping::standing::{Answer, Standing};
 use certificate::finding::Finding;
 use http_server::Log;
 use interface::tariff::Tariff;
-use plantext::line::LineText;
 use reading::rules::Rule;
 use service::operator::Operator;
 
@@ -41,13 +40,14 @@ impl<L: Terminal> Desk<L> {
 
     // What the next line asks, if that is what is due; else the line is refused. None where nothing more is heard.
     fn listen(&mut self, due: Due) -> Option<Result<Ask, Rule>>
-        ensures asked { Hears result (newest asks_in self.old.talk.items) (newest asks_in self.new.talk.items) }
-        ensures told { newest tells_in self.new.talk.items ≡ newest tells_in self.old.talk.items }
+        ensures turns { Hears result (newest turns_in self.old.talk.items)
+            (newest turns_in self.new.talk.items) }
         ensures suits { IfSome result (λ asked. IfOk asked (Suits due)) }
         ensures counted { IfSome result (λ _. length (L.heard self.new.terminal)
             ≡ length (L.heard self.old.terminal) + 1) }
         ensures few { length (L.heard self.new.terminal) < 2 ^ 64 }
         ensures ended { IfNone result (L.ended self.new.terminal ≡ true) }
+        ensures shown { newest shows_in self.new.talk.items ≡ newest shows_in self.old.talk.items }
     {
         let heard = self.terminal.hear()?;
         let line = self.terminal.lines();
@@ -62,10 +62,14 @@ impl<L: Terminal> Desk<L> {
 
     // What is due, as soon as a line asks it; each line before that is refused. None where nothing more is heard.
     fn ask(&mut self, due: Due) -> Option<Ask>
-        ensures asked { Asks result (newest asks_in self.old.talk.items) (newest asks_in self.new.talk.items) }
-        ensures told { newest tells_in self.new.talk.items ≡ newest tells_in self.old.talk.items }
+        ensures turns { Asks result (newest turns_in self.old.talk.items)
+            (newest turns_in self.new.talk.items) }
         ensures suits { IfSome result (Suits due) }
+        ensures fewer { IfSome result (λ _. length (L.heard self.old.terminal)
+            < length (L.heard self.new.terminal)) }
+        ensures fits { IfSome result (λ _. length (L.heard self.new.terminal) < 2 ^ 64) }
         ensures ended { IfNone result (L.ended self.new.terminal ≡ true) }
+        ensures shown { newest shows_in self.new.talk.items ≡ newest shows_in self.old.talk.items }
     {
         loop {
             if let Ok(ask) = self.listen(due)? {
@@ -76,81 +80,61 @@ impl<L: Terminal> Desk<L> {
 
     // Says what the operator is told.
     fn say(&mut self, told: Told)
-        ensures asked { newest asks_in self.new.talk.items ≡ newest asks_in self.old.talk.items }
-        ensures told { newest tells_in self.new.talk.items
-            ≡ told_of told ∷ newest tells_in self.old.talk.items }
+        ensures turns { newest turns_in self.new.talk.items
+            ≡ tells (told_of told) ∷ newest turns_in self.old.talk.items }
+        ensures heard { L.heard self.new.terminal ≡ L.heard self.old.terminal }
+        ensures shown { newest shows_in self.new.talk.items ≡ newest shows_in self.old.talk.items }
     {
         let turn = Turn::Told(told);
         self.talk = self.talk.and(&turn, &());
         self.terminal.say(&told.line());
     }
 
-    // Says a line of the finding.
-    fn show(&mut self, line: LineText)
-        ensures asked { newest asks_in self.new.talk.items ≡ newest asks_in self.old.talk.items }
-        ensures told { newest tells_in self.new.talk.items ≡ newest tells_in self.old.talk.items }
+    // Says the lines of a finding.
+    fn show(&mut self, lines: FindingLines)
+        ensures turns { newest turns_in self.new.talk.items ≡ shows ∷ newest turns_in self.old.talk.items }
         ensures shown { newest shows_in self.new.talk.items
-            ≡ line.bytes.items ∷ newest shows_in self.old.talk.items }
+            ≡ lines_of lines ++ newest shows_in self.old.talk.items }
+        ensures heard { L.heard self.new.terminal ≡ L.heard self.old.terminal }
     {
-        self.terminal.say(&line);
-        let turn = Turn::Shown(line);
+        self.terminal.say(&lines.low);
+        self.terminal.say(&lines.high);
+        self.terminal.say(&lines.top);
+        self.terminal.say(&lines.bottom);
+        let turn = Turn::Shown(lines);
         self.talk = self.talk.and(&turn, &());
     }
 }
 
 impl<L: Terminal> Operator for Desk<L> {
-    ghost asked = { λ desk. newest asks_in desk.talk.items };
+    ghost turns = { λ desk. newest turns_in desk.talk.items };
 
-    ghost told = { λ desk. newest tells_in desk.talk.items };
+    ghost was_shown = { λ desk. WasShown (newest shows_in desk.talk.items) };
 
-    fn found<T: Tariff>(&mut self, tariff: &T, finding: &Finding<T::Amount>)
-        ensures asked { newest asks_in self.new.talk.items ≡ newest asks_in self.old.talk.items }
-        ensures told { newest tells_in self.new.talk.items ≡ newest tells_in self.old.talk.items }
-        ensures shown { ShowsFinding T.Tariff.row finding.now (newest shows_in self.old.talk.items)
-            (newest shows_in self.new.talk.items) }
-    {
-        self.show(Claim::Low.line(tariff, finding.low));
-        self.show(Claim::High.line(tariff, finding.high));
-        self.show(Claim::Top.line(tariff, finding.top));
-        self.show(Claim::Bottom.line(tariff, finding.bottom));
+    ghost left = { λ desk. 2 ^ 64 - length (L.heard desk.terminal) };
+
+    ghost is_done = { λ desk. L.ended desk.terminal ≡ true };
+
+    fn found<T: Tariff>(&mut self, tariff: &T, finding: &Finding<T::Amount>) {
+        self.show(FindingLines::of(tariff, finding));
     }
 
-    fn state(&mut self) -> Option<usize>
-        ensures asked { AsksFor to_make result (newest asks_in self.old.talk.items)
-            (newest asks_in self.new.talk.items) }
-        ensures told { newest tells_in self.new.talk.items ≡ newest tells_in self.old.talk.items }
-        ensures ended { IfNone result (L.ended self.new.terminal ≡ true) }
-    {
+    fn state(&mut self) -> Option<usize> {
         match self.ask(Due::State)? {
             Ask::State(state) => Some(state as usize),
             _ => None,
         }
     }
 
-    fn order(&mut self) -> bool
-        ensures asked { AsksIf to_issue result (newest asks_in self.old.talk.items)
-            (newest asks_in self.new.talk.items) }
-        ensures told { newest tells_in self.new.talk.items ≡ newest tells_in self.old.talk.items }
-        ensures ended { result ≡ false → L.ended self.new.terminal ≡ true }
-    {
+    fn order(&mut self) -> bool {
         self.ask(Due::Order).is_some()
     }
 
-    fn carry_out(&mut self) -> bool
-        ensures asked { AsksIf to_carry_out result (newest asks_in self.old.talk.items)
-            (newest asks_in self.new.talk.items) }
-        ensures told { newest tells_in self.new.talk.items ≡ newest tells_in self.old.talk.items }
-        ensures ended { result ≡ false → L.ended self.new.terminal ≡ true }
-    {
+    fn carry_out(&mut self) -> bool {
         self.ask(Due::CarryOut).is_some()
     }
 
-    fn outcome(&mut self) -> Option<usize>
-        ensures asked { AsksFor to_report result (newest asks_in self.old.talk.items)
-            (newest asks_in self.new.talk.items) }
-        ensures told { newest tells_in self.new.talk.items ≡ newest tells_in self.old.talk.items }
-        ensures ended { IfNone result (L.ended self.new.terminal ≡ true) }
-    {
+    fn outcome(&mut self) -> Option<usize> {
         match self.ask(Due::Outcome)? {
             Ask::Outcome(outcome) => Some(outcome as usize),
             _ => None,

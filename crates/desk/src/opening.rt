@@ -1,9 +1,9 @@
-ghost use Rattle.std.specs.Prelude.{◌≤◌};
+ghost use Rattle.std.specs.Prelude.{◌≡◌, ◌≤◌, true};
 ghost use Rattle.planner.specs.Sweeps.{most_sweeps};
 ghost use Rattle.request.specs.Writing.{RateInRange};
 ghost use Rattle.reply.specs.Laws.{Tail, SomeRequest, ReplyLaw};
 ghost use Rattle.reply.specs.Replies.{PlansAs, BehindPlant, RepliesTo, scale_of};
-ghost use Rattle.desk.specs.Opening.{Opened, Followed, FollowedBehind, FollowedText, service_of};
+ghost use Rattle.desk.specs.Opening.{Opened, Followed, FollowedBehind, FollowedText};
 
 use crate::desk::Desk;
 use crate::terminal::Terminal;
@@ -33,7 +33,7 @@ fn follow_with<P: Plant, T: Tariff, L: Terminal + Drop>(
     requires { sweeps.count ≤ most_sweeps }
     ensures { Opened (PlansAs (P.model plant.now) (T.scale tariff.now) sweeps) (Unit {0})
         (λ desk. Followed (P.model plant.now) (T.scale tariff.now) sweeps.count
-        (service_of desk.talk.items)) result }
+        desk.talk.items × (L.ended desk.terminal ≡ true)) result }
 {
     let states = plant.states();
     let mut values = vec![in heap; tariff.zero(); states]?;
@@ -68,7 +68,7 @@ fn follow_under<P: Plant, L: Terminal + Drop>(
     requires few { sweeps.count ≤ most_sweeps }
     ensures { Opened (PlansAs (P.model plant.now) (scale_of tariff) sweeps) (Unit {0})
         (λ desk. Followed (P.model plant.now) (scale_of tariff) sweeps.count
-        (service_of desk.talk.items)) result }
+        desk.talk.items × (L.ended desk.terminal ≡ true)) result }
 {
     match tariff {
         TariffChoice::Priced(rate) => follow_with(
@@ -92,7 +92,7 @@ fn follow_behind<P: Plant, L: Terminal + Drop>(
     ensures { Opened (BehindPlant (P.model plant.now) lines.old.rest.now lines.old.place)
         (Tail lines.old.rest.now)
         (λ desk. FollowedBehind (P.model plant.now) lines.old.rest.now
-        (service_of desk.talk.items)) result }
+        desk.talk.items × (L.ended desk.terminal ≡ true)) result }
 {
     let tariff = read_tariff(lines)?;
     let sweeps = read_sweeps(lines)?;
@@ -106,7 +106,8 @@ fn follow_by_kind<L: Terminal + Drop>(
     terminal: L,
 ) -> Result<Desk<L>, Unanswered>
     ensures { Opened (RepliesTo text.now) (SomeRequest text.now)
-        (λ desk. FollowedText text.now (service_of desk.talk.items)) result }
+        (λ desk. FollowedText text.now desk.talk.items
+        × (L.ended desk.terminal ≡ true)) result }
 {
     let kind = kind_of(text)?;
     let mut lines = Lines::new(text);
@@ -130,9 +131,11 @@ pub fn follow<L: Terminal + Drop>(
     terminal: L,
 ) -> Result<Desk<L>, Unanswered>
     ensures reply { Opened (RepliesTo text.now) (SomeRequest text.now)
-        (λ desk. FollowedText text.now (service_of desk.talk.items)) result }
+        (λ desk. FollowedText text.now desk.talk.items
+        × (L.ended desk.terminal ≡ true)) result }
     ensures law { Opened (ReplyLaw text.now) (SomeRequest text.now)
-        (λ desk. FollowedText text.now (service_of desk.talk.items)) result }
+        (λ desk. FollowedText text.now desk.talk.items
+        × (L.ended desk.terminal ≡ true)) result }
 {
     follow_by_kind(heap, text, terminal)
 }

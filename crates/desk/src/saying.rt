@@ -1,12 +1,13 @@
 ghost use Rattle.std.specs.Prelude.{◌≡◌, ◌+◌, ◌≤◌, ◌++◌, length};
 ghost use Rattle.bookkeeping.specs.Standings.{book_of};
 ghost use Rattle.plantext.specs.Spaces.{line_room};
-ghost use Rattle.service.specs.Services.{shown};
-ghost use Rattle.desk.specs.Saying.{claim_key, claim_line, refusal_line, stage_key, book_line, shown_room, account_text, held_text, shown_text, told_line, shown_of, told_of};
+ghost use Rattle.service.specs.Services.{shown, rows_of};
+ghost use Rattle.desk.specs.Saying.{claim_key, claim_line, refusal_line, stage_key, book_line, shown_room, account_text, held_text, shown_text, told_line, shown_of, told_of, lines_of, finding_lines};
 
 use bookkeeping::refusal::Refusal;
 use bookkeeping::stage::Stage;
 use bookkeeping::standing::{Answer, Standing};
+use certificate::finding::Finding;
 use interface::tariff::Tariff;
 use lines::cutting::COMMA;
 use lines::reading::{EQUALS_SIGN, LINE_END};
@@ -174,6 +175,33 @@ impl Told {
             Told::NotMade(why) => refusal_line(why.number(), why.place()),
             Told::Answered(Answer::Refused(why), _) => refusal_line(why.number(), why.place()),
             Told::Answered(Answer::Next(stage), shown) => book_line(stage, shown),
+        }
+    }
+}
+
+/// The lines of a finding.
+#[derive(Drop)]
+pub struct FindingLines {
+    /// The line of low.
+    pub low: LineText,
+    /// The line of high.
+    pub high: LineText,
+    /// The line of top.
+    pub top: LineText,
+    /// The line of bottom.
+    pub bottom: LineText,
+}
+
+impl FindingLines {
+    /// The lines of this finding.
+    pub fn of<T: Tariff>(tariff: &T, finding: &Finding<T::Amount>) -> FindingLines
+        ensures { lines_of result ≡ finding_lines (rows_of T.Tariff.row finding.now) }
+    {
+        FindingLines {
+            low: Claim::Low.line(tariff, finding.low),
+            high: Claim::High.line(tariff, finding.high),
+            top: Claim::Top.line(tariff, finding.top),
+            bottom: Claim::Bottom.line(tariff, finding.bottom),
         }
     }
 }

@@ -1,7 +1,6 @@
 use crate::asking::Due;
-use crate::saying::Told;
+use crate::saying::{FindingLines, Told};
 use crate::terminal::Heard;
-use plantext::line::LineText;
 
 /// One turn of the talk at a desk.
 #[derive(Drop)]
@@ -10,6 +9,6 @@ pub enum Turn {
     Heard(Due, Heard),
     /// The operator was told this.
     Told(Told),
-    /// A line of the finding was shown.
-    Shown(LineText),
+    /// The finding was shown, in these lines.
+    Shown(FindingLines),
 }

@@ -1,3 +1,4 @@
 pub mod LoneChain
+pub mod LonePasts
 pub mod OnePart
 pub mod OnePlan

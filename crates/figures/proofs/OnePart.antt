@@ -19,10 +19,10 @@ use Rattle.tariffs.specs.OrdersLemmas.{first_total, first_trans}
 use Rattle.tariffs.specs.Priced.{priced_scale}
 use Rattle.workorder.specs.Orders.{LeastTable}
 
-abbrev scale : Scale
+abbrev pub scale : Scale
 scale = priced_scale 10
 
-each_state : (P : ℕ → Type 0) → P 0 → P 1 → P 2 → P 3 → (s : ℕ) → s < 4 → P s
+pub each_state : (P : ℕ → Type 0) → P 0 → P 1 → P 2 → P 3 → (s : ℕ) → s < 4 → P s
 each_state P a b c d zero l = a
 each_state P a b c d (suc zero) l = b
 each_state P a b c d (suc (suc zero)) l = c
@@ -35,7 +35,7 @@ each_portfolio P a b (suc zero) l = b
 each_portfolio P a b (suc (suc x)) l = absurd (omega arith)
 
 module _ (rest : List (Option ℕ)) where
-  abbrev plant : Model
+  abbrev pub plant : Model
   plant = lone_plant (Some 0 ∷ Some 200 ∷ rest)
 
   in_range : (s x : ℕ) → plant.feasible s x ≡ true → (s < 4) × (x < 2)
@@ -163,7 +163,7 @@ module _ (rest : List (Option ℕ)) where
   }
 
   -- low is the least gain of all and high the greatest of the policy's, so both claims hold
-  sound_twice : Sound plant scale after_two.values after_two.policy after_two.low after_two.high
+  pub sound_twice : Sound plant scale after_two.values after_two.policy after_two.low after_two.high
   sound_twice = record {
     values = swept_within plant scale swept_twice;
     policy = refl;

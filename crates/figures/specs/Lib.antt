@@ -1,2 +1,4 @@
 pub mod OnePart
+pub mod Pasts
+pub mod TwoWindows
 pub mod Worked

@@ -16,7 +16,7 @@ use Rattle.following.specs.Rules.{Met, Rule, Plays, lists, weight, cost, cost_be
 use Rattle.following.specs.Promises.{Policies, by_policies, allowance}
 use Rattle.following.proofs.Groups.{Ordered, backwards, gained_least, gained_most, from_halves}
 use Rattle.following.proofs.Weighing.{over}
-use Rattle.following.proofs.Halves.{inside_at, outcomes_there, all_lists, half}
+use Rattle.following.proofs.Halves.{stays, outcomes_there, all_lists, half}
 use Rattle.following.proofs.Sized.{Sized, same_rows, rows, ordered_rows, total_rows, sized_value, expected_rows}
 
 -- a rule by policies can play wherever it stands, if what these name is feasible there
@@ -29,7 +29,7 @@ policies_play m lawful ps feasible (suc n) met s l =
       here,
       λ k o there some.
           policies_play m lawful ps feasible n (met ++ (s, k) ∷ []) o.next
-          (inside_at m.states (m.outcomes s (named (ps (length met)) s)) k o (lawful.spread s (named (ps (length met)) s) here).inside there),
+          (stays m lawful s (named (ps (length met)) s) k o here there),
     )
 
 module _ (m : Model) (t : Scale) (scaled : LawfulScale t) where

@@ -13,7 +13,7 @@ use Rattle.following.specs.Rules.{Met, CanMeet, cost, cost_behind, weighed}
 use Rattle.following.specs.Promises.{Policies, by_policies, GoesThrough, grown}
 use Rattle.lookahead.proofs.Bounds.{plus_zeros}
 use Rattle.following.proofs.Groups.{swap_middle, times_add}
-use Rattle.following.proofs.Halves.{inside_at, outcomes_there}
+use Rattle.following.proofs.Halves.{stays}
 use Rattle.following.proofs.Sized.{Sized, rows, times_nothing}
 
 -- where a book comes to behind an outcome, or with none
@@ -142,8 +142,7 @@ module _ (m : Model) (lawful : Lawful m) (ps : Policies) where
         let here = feasible j s l in
         let c = moved (window m ps j a) o.next in
         let e : length (met ++ (s, k) ∷ []) ≡ suc j = length-append met ((s, k) ∷ []) ∙ (let d : length met + 1 ≡ suc (length met) = omega arith in d) in
-        let inside = inside_at m.states (m.outcomes s (named (ps j) s)) k o (lawful.spread s (named (ps j) s) here).inside
-        (ap (λ z. slice_get z k) (sym (outcomes_there m s (named (ps j) s) here)) ∙ can.1) in
+        let inside = stays m lawful s (named (ps j) s) k o here can.1 in
         let rest = subst (λ i. GoesThrough m ps i c ks (run m ps i c ks)) e (goes ks (met ++ (s, k) ∷ []) c inside (omega arith) can.2) in (
           record { room = omega arith; state = l; policy = long j; feasible = here },
           c,

@@ -10,13 +10,19 @@ use Rattle.following.specs.Rules.{Met, Rule, Plays, lists, weigh, weight}
 use Rattle.following.proofs.Groups.{Sums, Ordered, none_plus, times_plus, times_mul, times_swap, times_one, plus_right, plus_left, times_both}
 use Rattle.following.proofs.Weighing.{each, over, total, over_plus, over_times, over_one, over_same, over_most, total_begun, total_plus, numbers, weight_total}
 
-pub inside_at : (n : ℕ) (os : List Outcome) (k : ℕ) (o : Outcome) → Inside n os → slice_get os k ≡ Some o → o.next < n
+inside_at : (n : ℕ) (os : List Outcome) (k : ℕ) (o : Outcome) → Inside n os → slice_get os k ≡ Some o → o.next < n
 inside_at n [] k o h there = let z : ◌≡◌ {A = ℕ} 0 1 = cc in absurd (omega arith)
 inside_at n (p ∷ os) zero o h there = let e : p ≡ o = cc in subst (λ q. q.next < n) e h.0
 inside_at n (p ∷ os) (suc k) o h there = inside_at n os k o h.1 there
 
 pub outcomes_there : (m : Model) (s x : ℕ) → m.feasible s x ≡ true → outcomes_of m s x ≡ m.outcomes s x
 outcomes_there m s x f = ap (λ z. cond z (m.outcomes s x) []) f
+
+-- every outcome of a feasible pair leads to a state of the plant
+pub stays : (m : Model) → Lawful m → (s x k : ℕ) (o : Outcome) → m.feasible s x ≡ true → slice_get (outcomes_of m s x) k ≡ Some o
+    → o.next < m.states
+stays m lawful s x k o f there =
+    inside_at m.states (m.outcomes s x) k o (lawful.spread s x f).inside (ap (λ z. slice_get z k) (sym (outcomes_there m s x f)) ∙ there)
 
 -- What n windows cost, all lists weighed.
 abbrev pub all_lists : {A : Type 0} → Sums A → Model → Rule → (Met → ℕ → List ℕ → A) → ℕ → Met → ℕ → A
@@ -27,7 +33,7 @@ module _ (m : Model) (lawful : Lawful m) (r : Rule) where
   plays_on : (n : ℕ) (met : Met) (s : ℕ) → Plays m r (suc n) met s → (k : ℕ) (o : Outcome) → slice_get (outcomes_of m s (r met s)) k ≡ Some o → 1 ≤ o.weight
       → Plays m r n (met ++ (s, k) ∷ []) o.next
   unfolding Plays
-  plays_on n met s h k o there some = h.1 k o (ap (λ z. slice_get z k) (sym (outcomes_there m s (r met s) h.0)) ∙ there) some
+  plays_on n met s h = h.1
 
   plays_here : (n : ℕ) (met : Met) (s : ℕ) → Plays m r (suc n) met s → m.feasible s (r met s) ≡ true
   unfolding Plays
@@ -162,13 +168,12 @@ module _ (m : Model) (lawful : Lawful m) (r : Rule) where
         = ap (λ z. times whole (plus z (times (whole ^ suc n) edge))) (all_more n met s p)
         ∙ ap (λ z. times whole (plus (over S (behind n met s) 0 os) (times z edge))) (pow-succ' whole n)
         ∙ spread_left w (behind n met s) os full in
-        let inside = (lawful.spread s (r met s) here).inside in
         let each_one = over_most S O (λ k o. times whole (plus (behind n met s k o) (times w edge))) (λ k o. times w (plus (times whole price) (plus (times whole (v k o)) (times n g)))) 0 os
         (each (λ k o. 1 ≤ o.weight → at_most (times whole (plus (behind n met s k o) (times w edge))) (times w (plus (times whole price) (plus (times whole (v k o)) (times n g)))) ≡ true) os
         (λ k o there some.
         one n w price (all n (met ++ (s, k) ∷ []) o.next) (h o.next)
         (half n (met ++ (s, k) ∷ []) o.next
-        (inside_at m.states (m.outcomes s (r met s)) k o inside (ap (λ z. slice_get z k) (sym (outcomes_there m s (r met s) here)) ∙ there))
+        (stays m lawful s (r met s) k o here there)
         (plays_on n met s p k o there some)))) in
         let gained = times_both S O w _ _ (times_both S O whole _ _ (plus_left S O (plus (times whole price) (over S v 0 os)) (plus (times whole (h s)) g) (times n g) (gains met s here))) in
         ap (λ z. at_most z (times (whole ^ suc n) (plus (times whole (h s)) (times (suc n) g)))) left

@@ -1,9 +1,9 @@
-mod Groups
-mod Weighing
-mod Halves
-mod Sized
-mod Bounding
-mod Enumerating
-mod Charging
-mod Promising
-mod Going
+pub mod Groups
+pub mod Weighing
+pub mod Halves
+pub mod Sized
+pub mod Bounding
+pub mod Enumerating
+pub mod Charging
+pub mod Promising
+pub mod Going

@@ -46,6 +46,7 @@ module _ (m : Model) (lawful : Lawful m) (t : Scale) (scaled : LawfulScale t) (v
     end = run m ps 0 a;
     reached = through a n l room;
     only = one_end a n;
+    as_rule = charged_costs a n;
     enumerated = enumerates m lawful (by_policies ps) n a.state (policies_play m lawful ps feasible n [] a.state l);
     rivals = λ r plays. enumerates m lawful r n a.state plays;
     bound = λ r plays.

@@ -40,7 +40,8 @@ pub record CanGo (m : Model) (ps : List ℕ) (a : Account) (ks : List ℕ) : Typ
 
 -- The calls of windows, on top of those before, the newest first.
 abbrev pub carried : Model → List ℕ → List Event → List Event
-carried m ps es = record { call = carry_out; reply = goes_on OnAir } ∷ record { call = issue m ps; reply = goes_on Issued } ∷ es
+carried m ps es =
+    record { call = carry_out; reply = goes_on OnAir } ∷ record { call = issue m ps; reply = goes_on Issued } ∷ es
 
 abbrev pub windows : Model → List ℕ → List ℕ → List Event → List Event
 windows m ps [] es = es
@@ -49,7 +50,8 @@ windows m ps (k ∷ ks) es = windows m ps ks (record { call = report m k; reply 
 -- The calls of a window that was refused, by the stage in which it left the book.
 abbrev pub last_calls : Model → List ℕ → ℕ → Book → Option Refusal → List Event → List Event
 last_calls m ps k b None es = es
-last_calls m ps k (on_air w) (Some r) es = record { call = report m k; reply = refused (number_of r) (place_of r) } ∷ carried m ps es
+last_calls m ps k (on_air w) (Some r) es =
+    record { call = report m k; reply = refused (number_of r) (place_of r) } ∷ carried m ps es
 last_calls m ps k b (Some r) es = record { call = issue m ps; reply = refused (number_of r) (place_of r) } ∷ es
 
 -- The calls of a following that ended so.

@@ -31,19 +31,23 @@ grown a b = record { seconds = b.seconds - a.seconds; cents = b.cents - a.cents 
 
 -- What following costs a book over n windows: what its totals grow by to the end of each list, priced and weighed.
 abbrev pub charged : Model → Scale → Policies → ℕ → Account → (List ℕ → Account) → Row
-charged m t ps n a end = weighed t (weight m (by_policies ps) [] a.state) (λ ks. price t (grown a (end ks))) (lists m (by_policies ps) n [] a.state)
+charged m t ps n a end =
+    weighed t (weight m (by_policies ps) [] a.state) (λ ks. price t (grown a (end ks)))
+    (lists m (by_policies ps) n [] a.state)
 
 -- 10,000^n × (n × (high − low) + 10,000 × (top − bottom))
 abbrev pub allowance : ℕ → Row → Row → Row → Row → Row
 allowance n low high top bottom = times (whole ^ n) (plus (times n (minus high low)) (times whole (minus top bottom)))
 
 -- What is promised of an open book that follows policies for n windows: each list that can be met takes it to an end, and to one
--- only; and against every rule that can play as long from its state, 10,000 × (what the book is charged − what the rule costs),
--- weighed over all lists, is within the allowance.
+-- only; what it is charged is what its policies cost as a rule of play; and against every rule that can play as long from its
+-- state, 10,000 × (what the book is charged − what the rule costs), weighed over all lists, is within the allowance.
 pub record CostBound (m : Model) (t : Scale) (ps : Policies) (low high top bottom : Row) (a : Account) (n : ℕ) : Type 0 where
   pub end : List ℕ → Account
   pub reached : (ks : List ℕ) → Contains (lists m (by_policies ps) n [] a.state) ks → GoesThrough m ps 0 a ks (end ks)
-  pub only : (ks : List ℕ) (b : Account) → length ks ≡ n → GoesThrough m ps 0 a ks b → Contains (lists m (by_policies ps) n [] a.state) ks × (b ≡ end ks)
+  pub only : (ks : List ℕ) (b : Account) → length ks ≡ n → GoesThrough m ps 0 a ks b
+      → Contains (lists m (by_policies ps) n [] a.state) ks × (b ≡ end ks)
+  pub as_rule : charged m t ps n a end ≡ costs m t (by_policies ps) n a.state
   pub enumerated : Enumerates m (by_policies ps) n a.state
   pub rivals : (r : Rule) → Plays m r n [] a.state → Enumerates m r n a.state
   pub bound : (r : Rule) → Plays m r n [] a.state

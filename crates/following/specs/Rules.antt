@@ -14,19 +14,27 @@ Met = List (ℕ × ℕ)
 abbrev pub Rule : Type 0
 Rule = Met → ℕ → ℕ
 
+-- What was met, with one window more that stood in s and ended in outcome k.
+abbrev pub further : Met → ℕ → ℕ → Met
+further met s k = met ++ (s, k) ∷ []
+
+-- Outcome k of the pair in which a rule stands; none of an infeasible pair, nor past the last.
+abbrev pub outcome_at : Model → Rule → Met → ℕ → ℕ → Option Outcome
+outcome_at m r met s k = slice_get (outcomes_of m s (r met s)) k
+
 -- A rule can play n windows from what was met and a state: what it names is feasible here, and after each outcome that can
 -- happen it can play the rest.
 unfoldable pub Plays : Model → Rule → ℕ → Met → ℕ → Type 0
 Plays m r zero met s = ⊤
 Plays m r (suc n) met s =
     (m.feasible s (r met s) ≡ true)
-    × ((k : ℕ) (o : Outcome) → slice_get (m.outcomes s (r met s)) k ≡ Some o → 1 ≤ o.weight → Plays m r n (met ++ (s, k) ∷ []) o.next)
+    × ((k : ℕ) (o : Outcome) → outcome_at m r met s k ≡ Some o → 1 ≤ o.weight → Plays m r n (further met s k) o.next)
 
--- A list of outcome numbers can be met by a rule: each is an outcome of the feasible pair in which the rule then stands.
+-- A list of outcome numbers can be met by a rule: each is an outcome of the pair in which the rule then stands.
 abbrev pub CanMeet : Model → Rule → Met → ℕ → List ℕ → Type 0
 CanMeet m r met s [] = ⊤
 CanMeet m r met s (k ∷ ks) =
-    (o : Outcome) × (slice_get (outcomes_of m s (r met s)) k ≡ Some o) × CanMeet m r (met ++ (s, k) ∷ []) o.next ks
+    (o : Outcome) × (outcome_at m r met s k ≡ Some o) × CanMeet m r (further met s k) o.next ks
 
 -- The lists that begin with the number of an outcome, for each of the outcomes.
 abbrev pub begun : (ℕ → Outcome → List (List ℕ)) → ℕ → List Outcome → List (List ℕ)
@@ -36,7 +44,7 @@ begun rest k (o ∷ os) = map (λ ks. k ∷ ks) (rest k o) ++ begun rest (suc k)
 -- All lists of n outcome numbers that a rule can meet.
 unfoldable pub lists : Model → Rule → ℕ → Met → ℕ → List (List ℕ)
 lists m r zero met s = [] ∷ []
-lists m r (suc n) met s = begun (λ k o. lists m r n (met ++ (s, k) ∷ []) o.next) 0 (outcomes_of m s (r met s))
+lists m r (suc n) met s = begun (λ k o. lists m r n (further met s k) o.next) 0 (outcomes_of m s (r met s))
 
 -- One outcome's weight times what the rest weighs; nothing where there is no such outcome.
 abbrev pub weigh : Option Outcome → (Outcome → ℕ) → ℕ
@@ -51,12 +59,14 @@ cost_behind t (Some o) rest = rest o
 -- The weight of a list: the product of the weights of its outcomes.
 unfoldable pub weight : Model → Rule → Met → ℕ → List ℕ → ℕ
 weight m r met s [] = 1
-weight m r met s (k ∷ ks) = weigh (slice_get (outcomes_of m s (r met s)) k) (λ o. weight m r (met ++ (s, k) ∷ []) o.next ks)
+weight m r met s (k ∷ ks) = weigh (outcome_at m r met s k) (λ o. weight m r (further met s k) o.next ks)
 
 -- The cost of a list: the sum of the priced bills of its windows.
 unfoldable pub cost : Model → Scale → Rule → Met → ℕ → List ℕ → Row
 cost m t r met s [] = zeros t.places
-cost m t r met s (k ∷ ks) = plus (price t (m.bill s (r met s))) (cost_behind t (slice_get (outcomes_of m s (r met s)) k) (λ o. cost m t r (met ++ (s, k) ∷ []) o.next ks))
+cost m t r met s (k ∷ ks) =
+    plus (price t (m.bill s (r met s)))
+    (cost_behind t (outcome_at m r met s k) (λ o. cost m t r (further met s k) o.next ks))
 
 -- Each list's amount times its weight, added up.
 abbrev pub weighed : Scale → (List ℕ → ℕ) → (List ℕ → Row) → List (List ℕ) → Row

@@ -57,7 +57,8 @@ impl Aim {
         }
     }
 
-    /// The best of the amounts numbered below a count, the first among equals. It asks for each number once, in order.
+    /// The best of the amounts numbered below a count, the first among equals. It asks for each
+    /// number once, in order.
     pub fn first_best<T: Tariff, F: Fn(usize) -> Option<T::Amount>>(
         self,
         tariff: &T,

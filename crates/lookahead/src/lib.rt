@@ -1,5 +1,5 @@
-// Value tables, and what a portfolio comes to under one: its look-ahead and its gain. A plant is known by its
-// questions alone, a tariff by its operations alone.
+// Value tables, and what a portfolio comes to under one: its look-ahead and its gain. A plant is
+// known by its questions alone, a tariff by its operations alone.
 #![tactic(auto)]
 
 mod ahead;

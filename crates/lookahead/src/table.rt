@@ -47,7 +47,7 @@ impl<'a, A: Copy> ValueTable<'a, A> {
             (look_ahead (P.model plant.now) (T.scale tariff.now)
             (map T.Tariff.row self.now.amounts.now) state portfolio) }
     {
-        ahead::look_ahead(plant, tariff, self.amounts, state, portfolio)
+        ahead::look_ahead(plant, tariff, self, state, portfolio)
     }
 
     /// The gain of a portfolio in a state, absent as the look-ahead is under a table within reach.
@@ -65,7 +65,7 @@ impl<'a, A: Copy> ValueTable<'a, A> {
             (gain (P.model plant.now) (T.scale tariff.now)
             (map T.Tariff.row self.now.amounts.now) state portfolio) }
     {
-        ahead::gain(plant, tariff, self.amounts, state, portfolio)
+        ahead::gain(plant, tariff, self, state, portfolio)
     }
 
     /// The gain of a pair whose bill is at hand. Of the plant only the outcomes are asked, each
@@ -86,6 +86,6 @@ impl<'a, A: Copy> ValueTable<'a, A> {
             → IsSomeAnd result (λ a. T.Tariff.row a ≡ gain (P.model plant.now) (T.scale tariff.now)
             (map T.Tariff.row self.now.amounts.now) state portfolio) }
     {
-        ahead::gain_of(plant, tariff, self.amounts, bill, state, portfolio)
+        ahead::gain_of(plant, tariff, self, bill, state, portfolio)
     }
 }

@@ -11,20 +11,24 @@ use crate::table::ValueTable;
 use interface::plant::{Bill, Plant};
 use interface::tariff::Tariff;
 
-/// A plant and a tariff with a value table within reach. It is lent to whatever asks for gains and look-aheads, which are
-/// there for the feasible portfolios and for no others. It is made as a literal where the reach is known.
+/// A plant and a tariff with a value table within reach. It is lent to whatever asks for gains and
+/// look-aheads, which are there for the feasible portfolios and for no others. It is made as a
+/// literal where the reach is known.
 #[derive(Drop)]
 pub struct ValuedPlant<'p, 't, 'v, P: Plant, T: Tariff> {
     pub plant: &'p P,
     pub tariff: &'t T,
     pub table: ValueTable<'v, T::Amount>,
-    pub ghost within: { Within (P.model plant.now) (map T.Tariff.row table.amounts.now) } by { within_prop (P.model plant.now) (map T.Tariff.row table.amounts.now) },
+    pub ghost within: { Within (P.model plant.now)
+        (map T.Tariff.row table.amounts.now) } by { within_prop (P.model plant.now)
+            (map T.Tariff.row table.amounts.now) },
 }
 
 impl<'p, 't, 'v, P: Plant, T: Tariff> ValuedPlant<'p, 't, 'v, P, T> {
     /// The look-ahead of a portfolio in a state.
     pub fn look_ahead(&self, state: usize, portfolio: usize) -> Option<T::Amount>
-        ensures { Answers T.Tariff.row result ((P.model self.now.plant.now).feasible state portfolio)
+        ensures { Answers T.Tariff.row result
+            ((P.model self.now.plant.now).feasible state portfolio)
             (look_ahead (P.model self.now.plant.now) (T.scale self.now.tariff.now)
             (map T.Tariff.row self.now.table.amounts.now) state portfolio) }
     {
@@ -34,14 +38,16 @@ impl<'p, 't, 'v, P: Plant, T: Tariff> ValuedPlant<'p, 't, 'v, P, T> {
 
     /// The gain of a portfolio in a state.
     pub fn gain(&self, state: usize, portfolio: usize) -> Option<T::Amount>
-        ensures { Answers T.Tariff.row result ((P.model self.now.plant.now).feasible state portfolio)
+        ensures { Answers T.Tariff.row result
+            ((P.model self.now.plant.now).feasible state portfolio)
             (gain (P.model self.now.plant.now) (T.scale self.now.tariff.now)
             (map T.Tariff.row self.now.table.amounts.now) state portfolio) }
     {
         self.table.gain(self.plant, self.tariff, state, portfolio)
     }
 
-    /// The gain of a feasible pair whose bill is at hand. Of the plant only the outcomes are asked, each once.
+    /// The gain of a feasible pair whose bill is at hand. Of the plant only the outcomes are asked,
+    /// each once.
     pub fn gain_of(&self, bill: Bill, state: usize, portfolio: usize) -> Option<T::Amount>
         ensures { bill_of (P.model self.now.plant.now) state portfolio ≡ Some bill
             → IsSomeAnd result (λ a. T.Tariff.row a ≡ gain (P.model self.now.plant.now)
@@ -60,7 +66,8 @@ impl<'p, 't, 'v, P: Plant, T: Tariff> ValuedPlant<'p, 't, 'v, P, T> {
             (gain (P.model self.now.plant.now) (T.scale self.now.tariff.now)
             (map T.Tariff.row self.now.table.amounts.now)) state)
             (P.model self.now.plant.now).portfolios }
-        ensures least { FirstLeast T.Tariff.row (P.model self.now.plant.now) (T.scale self.now.tariff.now)
+        ensures least { FirstLeast T.Tariff.row (P.model self.now.plant.now)
+            (T.scale self.now.tariff.now)
             (gain (P.model self.now.plant.now) (T.scale self.now.tariff.now)
             (map T.Tariff.row self.now.table.amounts.now)) state result }
     {
@@ -79,7 +86,8 @@ impl<'p, 't, 'v, P: Plant, T: Tariff> ValuedPlant<'p, 't, 'v, P, T> {
             (look_ahead (P.model self.now.plant.now) (T.scale self.now.tariff.now)
             (map T.Tariff.row self.now.table.amounts.now)) state)
             (P.model self.now.plant.now).portfolios }
-        ensures least { FirstLeast T.Tariff.row (P.model self.now.plant.now) (T.scale self.now.tariff.now)
+        ensures least { FirstLeast T.Tariff.row (P.model self.now.plant.now)
+            (T.scale self.now.tariff.now)
             (look_ahead (P.model self.now.plant.now) (T.scale self.now.tariff.now)
             (map T.Tariff.row self.now.table.amounts.now)) state result }
     {

@@ -8,7 +8,10 @@ pub mod lamp;
 mod tests {
     use crate::basket::ByBasket;
     use crate::lamp::Lamp;
+    use bookkeeping::book::Open;
+    use bookkeeping::refusal::Refusal;
     use certificate::check::check as check_certificate;
+    use following::follow::follow;
     use interface::tariff::Tariff;
     use planner::plan::plan;
     use std::test::Fail;
@@ -29,6 +32,28 @@ mod tests {
         assert_eq!(rt; finding.top.seconds, 60_000);
         assert_eq!(rt; finding.top.cents, 500_000);
         assert_eq!(rt; finding.top.fees, 420);
+        Ok(())
+    }
+
+    // A book of a lamp follows its plan; the outcome that a lamp does not have is refused in the fourth window.
+    #[test]
+    fn follows(rt: HostRuntime) -> Result<(), Fail> {
+        let lamp = Lamp::new(2500).ok_or_else(|| Fail::new("the weight is in range"))?;
+        let zero = ByBasket.zero();
+        let mut values = [zero; 2];
+        let mut working = [zero; 2];
+        let mut policy = [7u16; 2];
+        let claims = plan(&lamp, &ByBasket, 5, &mut values, &mut working, &mut policy)?;
+        let book = Open::make(&lamp, 0).map_err(|_| Fail::new("the lamp has the state"))?;
+        let outcomes = [1, 0, 1, 9, 0];
+        let followed = follow(&lamp, &ByBasket, &values, &policy, claims, book, &outcomes).map_err(
+            |_| Fail::new("the plan is accepted"),
+        )?;
+        assert_eq!(rt; followed.windows, 3);
+        assert!(rt; followed.refused == Some(Refusal::NoOutcome(9)));
+        assert_eq!(rt; followed.book.windows(), 4);
+        assert_eq!(rt; followed.book.state(), 1);
+        assert_eq!(rt; followed.book.portfolio(), Some(1));
         Ok(())
     }
 }

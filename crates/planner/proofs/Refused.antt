@@ -1,11 +1,11 @@
 -- What the planner's answer says, by rule and place.
-use Rattle.std.proofs.Common.{◌≡◌, ◌↔◌, ℕ, List, map, Ok, Err, Result, refl, subst, arith}
+use Rattle.std.proofs.Common.{◌↔◌, ℕ, map, Ok, Err, Result, refl, subst, arith}
 use Rattle.std.specs.Result.{IfErr}
 use Rattle.interface.specs.Plants.{Model}
 use Rattle.interface.specs.Rows.{Row}
 use Rattle.interface.specs.Tariffs.{Scale}
 use Rattle.interface.specs.declared.claims.Claims.{Claims}
-use Rattle.planner.specs.Answers.{Tables, Level, Answer, Only}
+use Rattle.planner.specs.Answers.{Tables, Answer, Only}
 use Rattle.planner.specs.RefusedAs.{RefusedAs, IsRefused, by_sweeps, by_length, by_value}
 use Rattle.planner.specs.Refusals.{number_of, place_of}
 use Rattle.planner.specs.declared.refusal.Refusal.{Refusal}

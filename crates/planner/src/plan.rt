@@ -18,8 +18,8 @@ use lookahead::valued::ValuedPlant;
 /// The largest number of sweeps.
 pub const MOST_SWEEPS: u32 = 1000;
 
-/// Sweeps the value table so many times from zero rows, chooses the policy by it, and claims by the recipe. The three
-/// tables are the caller's, each with an entry for each state.
+/// Sweeps the value table so many times from zero rows, chooses the policy by it, and claims by the
+/// recipe. The three tables are the caller's, each with an entry for each state.
 pub fn plan<P: Plant, T: Tariff>(
     plant: &P,
     tariff: &T,

@@ -48,7 +48,8 @@ fn least_share<P: Plant, T: Tariff>(valued: &ValuedPlant<P, T>, state: usize) ->
     valued.tariff.share(least_ahead(valued, state).amount)
 }
 
-// The values that a sweep gives, into the working table, up to the first state whose value would be beyond reach.
+// The values that a sweep gives, into the working table, up to the first state whose value would be
+// beyond reach.
 fn sweep_into<P: Plant, T: Tariff>(
     valued: &ValuedPlant<P, T>,
     working: &mut [T::Amount],
@@ -81,7 +82,8 @@ pub(crate) fn sweep_all<P: Plant, T: Tariff>(
     values: &mut [T::Amount],
     working: &mut [T::Amount],
 ) -> Result<(), Refusal>
-    requires zero { map T.Tariff.row values.old ≡ blank (T.scale tariff.now) (P.model plant.now).states }
+    requires zero { map T.Tariff.row values.old ≡ blank (T.scale tariff.now)
+        (P.model plant.now).states }
     requires long { length working.old ≡ (P.model plant.now).states }
     ensures swept { OnOk result
         (Swept (P.model plant.now) (T.scale tariff.now) sweeps (map T.Tariff.row values.new)) }
@@ -101,7 +103,8 @@ pub(crate) fn sweep_all<P: Plant, T: Tariff>(
     Ok(())
 }
 
-// Writes the policy: in each state a portfolio of least look-ahead, of several the one with the lowest number.
+// Writes the policy: in each state a portfolio of least look-ahead, of several the one with the
+// lowest number.
 pub(crate) fn choose<P: Plant, T: Tariff>(valued: &ValuedPlant<P, T>, policy: &mut [u16])
     requires { length policy.old ≡ (P.model valued.now.plant.now).states }
     ensures { Chooses (P.model valued.now.plant.now) (T.scale valued.now.tariff.now)

@@ -1,8 +1,8 @@
-ghost use Rattle.std.specs.Prelude.{◌≡◌, ℕ, List, IfOk, OnErr};
+ghost use Rattle.std.specs.Prelude.{◌≡◌, ◌<◌, ℕ, List, IfNone, IfOk, IfSome, OnErr};
 ghost use Rattle.std.specs.Option.{option_map};
 ghost use Rattle.bookkeeping.specs.Standings.{book_of};
 ghost use Rattle.service.specs.Planning.{AllPromised, PlannedAs};
-ghost use Rattle.service.specs.Services.{AsksCall, InService, Serves, Talk};
+ghost use Rattle.service.specs.Services.{AsksCall, InService, Keeps, Serves, Turn, rows_of};
 
 use crate::operator::Operator;
 use bookkeeping::book::Open;
@@ -26,13 +26,13 @@ pub struct Served<A> {
 
 // The book that is made in the first state asked for that the plant has.
 fn make_book<P: Plant, O: Operator>(plant: &P, operator: &mut O) -> Option<Standing>
-    ensures { (ps : List ℕ) → Serves (P.model plant.now) ps
-        (record { asked = O.asked operator.old; told = O.told operator.old })
-        (record { asked = O.asked operator.new; told = O.told operator.new })
+    ensures served { (ps : List ℕ) → Serves (P.model plant.now) ps
+        (O.turns operator.old) (O.turns operator.new)
         (option_map book_of result) }
+    ensures shown { Keeps (O.was_shown operator.old) (O.was_shown operator.new) }
+    ensures done { IfNone result (O.is_done operator.new) }
 {
-    // Nothing says that an operator ever stops asking.
-    for _turn in 0..u64::MAX {
+    loop {
         let state = operator.state()?;
         match Open::make(plant, state) {
             Ok(book) => {
@@ -43,7 +43,6 @@ fn make_book<P: Plant, O: Operator>(plant: &P, operator: &mut O) -> Option<Stand
             Err(why) => operator.not_made(why),
         }
     }
-    None
 }
 
 // The call that is asked for next at the book's stage.
@@ -52,8 +51,11 @@ fn next_call<'a, O: Operator>(
     policy: &'a [u16],
     operator: &mut O,
 ) -> Option<Call<'a>>
-    ensures asked { AsksCall (book_of book.now) policy.now result (O.asked operator.old) (O.asked operator.new) }
-    ensures told { O.told operator.new ≡ O.told operator.old }
+    ensures asked { AsksCall (book_of book.now) policy.now result
+        (O.turns operator.old) (O.turns operator.new) }
+    ensures shown { Keeps (O.was_shown operator.old) (O.was_shown operator.new) }
+    ensures fewer { IfSome result (λ _. O.left operator.new < O.left operator.old) }
+    ensures done { IfNone result (O.is_done operator.new) }
 {
     match book.stage() {
         Stage::Open => operator.order().then_some(Call::Issue(policy)),
@@ -72,13 +74,14 @@ fn attend<P: Plant, O: Operator>(
     made: Standing,
     operator: &mut O,
 ) -> Standing
-    ensures { (from : Talk) → InService (P.model plant.now) policy.now from
-        (record { asked = O.asked operator.old; told = O.told operator.old }) (book_of made)
-        → InService (P.model plant.now) policy.now from
-        (record { asked = O.asked operator.new; told = O.told operator.new }) (book_of result) }
+    ensures served { (from : List Turn)
+        → InService (P.model plant.now) policy.now from (O.turns operator.old) (book_of made)
+        → InService (P.model plant.now) policy.now from (O.turns operator.new) (book_of result) }
+    ensures shown { Keeps (O.was_shown operator.old) (O.was_shown operator.new) }
+    ensures done { O.is_done operator.new }
 {
     let mut book = made;
-    for _turn in 0..u64::MAX {
+    loop {
         let Some(call) = next_call(&book, policy, operator) else {
             return book;
         };
@@ -86,15 +89,15 @@ fn attend<P: Plant, O: Operator>(
         book = next;
         operator.tell(answer.unwrap(), &book);
     }
-    book
 }
 
 // A book where one is asked for, after all calls that are.
 fn keep_book<P: Plant, O: Operator>(plant: &P, policy: &[u16], operator: &mut O) -> Option<Standing>
-    ensures { Serves (P.model plant.now) policy.now
-        (record { asked = O.asked operator.old; told = O.told operator.old })
-        (record { asked = O.asked operator.new; told = O.told operator.new })
+    ensures served { Serves (P.model plant.now) policy.now
+        (O.turns operator.old) (O.turns operator.new)
         (option_map book_of result) }
+    ensures shown { Keeps (O.was_shown operator.old) (O.was_shown operator.new) }
+    ensures done { O.is_done operator.new }
 {
     let Some(made) = make_book(plant, operator) else {
         return None;
@@ -118,14 +121,15 @@ pub fn serve<P: Plant, T: Tariff, O: Operator>(
         (record { values = values.old; working = working.old; policy = policy.old })
         (record { values = values.new; working = working.new; policy = policy.new })
         result }
-    // without a plan nothing is asked or told
-    ensures not_planned { OnErr result ((O.asked operator.new ≡ O.asked operator.old)
-        × (O.told operator.new ≡ O.told operator.old)) }
+    // without a plan nothing passes between the two
+    ensures not_planned { OnErr result (O.turns operator.new ≡ O.turns operator.old) }
+    // the finding was shown, and the service went on until the operator had nothing more to ask
+    ensures shown { IfOk result (λ s. O.was_shown operator.new (rows_of T.Tariff.row s.finding)) }
+    ensures done { IfOk result (λ _. O.is_done operator.new) }
     // the cost bound, the exactness of the claims, and the whole past of the book
     ensures promised { IfOk result (AllPromised T.Tariff.row (P.model plant.now) (T.scale tariff.now)
         (record { values = values.new; working = working.new; policy = policy.new })
-        (record { asked = O.asked operator.old; told = O.told operator.old })
-        (record { asked = O.asked operator.new; told = O.told operator.new })) }
+        (O.turns operator.old) (O.turns operator.new)) }
 {
     let claims = plan(plant, tariff, sweeps, values, working, policy)?;
     let finding = accept(plant, tariff, values, policy, claims).unwrap();

@@ -3,7 +3,6 @@ use Rattle.std.proofs.lemmas.Result.{err_from_is_err_and}
 use Rattle.reply.specs.declared.answer.Refusal.TheVariants.{Broken}
 use Rattle.reply.specs.Replies.{AtKind}
 use Rattle.reply.proofs.Beginnings.{from_chain, from_pair, chain_requested, pair_requested}
-use Rattle.desk.specs.Opening.{service_of}
 use Rattle.desk.proofs.OpeningLaws.{follows, chain_followed, pair_followed}
 use Rattle.desk.proofs.opening.follow_by_kind.Goals as goal
 
@@ -32,7 +31,7 @@ returns-in_ok-chain-in-Chain g c =
     c.follow_behind.result
     (λ r h. subst (λ q. AtKind text q r) named (reads r h))
     requested
-    (λ desk h. chain_followed (service_of desk.talk.items) text start.result.rest.now rest start.ensures.rest chain e.law h)
+    (λ desk h. (chain_followed desk.talk.items text start.result.rest.now rest start.ensures.rest chain e.law h.0, h.1))
     c.follow_behind.ensures
 
 pub returns-in_err-pair-in-Pair : goal.returns-in_err-pair-in-Pair
@@ -60,5 +59,5 @@ returns-in_ok-pair-in-Pair g c =
     c.follow_behind-in-Pair.result
     (λ r h. subst (λ q. AtKind text q r) named (reads r h))
     requested
-    (λ desk h. pair_followed (service_of desk.talk.items) text start.result.rest.now rest start.ensures.rest pair e.law h)
+    (λ desk h. (pair_followed desk.talk.items text start.result.rest.now rest start.ensures.rest pair e.law h.0, h.1))
     c.follow_behind-in-Pair.ensures

@@ -8,7 +8,7 @@ use Rattle.lookahead.proofs.ahead.add_outcomes.Goals as goal
 pub returns-in_err-sum : goal.returns-in_err-sum
 returns-in_err-sum g c =
     let row = g.T.Tariff.row in
-    let vs = map row c.args.values.now in
+    let vs = map row c.args.table.now.amounts.now in
     let os = outcomes_of (g.P.Plant.model c.args.plant.now) c.args.state c.args.portfolio in
     let split = drop_nth os c.loop-k.k c.in_ok-o.o (sym c.outcome.ensures ∙ c.in_ok-o.was) in
     let none : add_outcome vs (row c.loop-k.sum) c.in_ok-o.o ≡ None = sym c.add_outcome.ensures ∙ ap (option_map row) c.in_err-sum.was in
@@ -18,7 +18,7 @@ returns-in_err-sum g c =
 pub loop-k-preserved : goal.loop-k-preserved
 loop-k-preserved g c =
     let row = g.T.Tariff.row in
-    let vs = map row c.args.values.now in
+    let vs = map row c.args.table.now.amounts.now in
     let os = outcomes_of (g.P.Plant.model c.args.plant.now) c.args.state c.args.portfolio in
     let split = drop_nth os c.loop-k.k c.in_ok-o.o (sym c.outcome.ensures ∙ c.in_ok-o.was) in
     let some : add_outcome vs (row c.loop-k.sum) c.in_ok-o.o ≡ Some (row c.in_ok-sum.sum) = sym c.add_outcome.ensures ∙ ap (option_map row) c.in_ok-sum.was in

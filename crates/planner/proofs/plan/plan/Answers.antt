@@ -1,4 +1,4 @@
-use Rattle.std.proofs.Common.{◌≡◌, ◌<◌, ◌≤◌, map, Ok, Err, Result, refl, sym, subst, arith, rules}
+use Rattle.std.proofs.Common.{map, Ok, Err, Result, refl, sym, subst, arith, rules}
 use Rattle.std.specs.Result.{IfOk}
 use Rattle.interface.specs.Plants.{named}
 use Rattle.interface.specs.declared.claims.Claims.{Claims}

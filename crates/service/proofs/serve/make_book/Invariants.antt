@@ -1,8 +1,11 @@
-use Rattle.service.specs.Services.{NoneMade}
+use Rattle.service.specs.Services.{Keeps, NoneMade}
 use Rattle.service.proofs.serve.make_book.Given as goal
 
-abbrev pub invariant-loop-turn : goal.invariant-loop-turn
-invariant-loop-turn g l =
-    NoneMade (g.P.Plant.model l.plant)
-    (record { asked = g.O.Operator.asked l.fn.operator; told = g.O.Operator.told l.fn.operator })
-    (record { asked = g.O.Operator.asked l.operator; told = g.O.Operator.told l.operator })
+abbrev pub invariant-loop-state : goal.invariant-loop-state
+invariant-loop-state g l = record {
+  none : NoneMade (g.P.Plant.model l.plant) (g.O.Operator.turns l.fn.operator) (g.O.Operator.turns l.operator);
+  shown : Keeps (g.O.Operator.was_shown l.fn.operator) (g.O.Operator.was_shown l.operator);
+}
+
+abbrev pub decreases-loop-state : goal.decreases-loop-state
+decreases-loop-state g l = g.O.Operator.left l.operator

@@ -1,4 +1,4 @@
-use Rattle.std.proofs.Common.{◌≡◌, ◌∙◌, List, ap, map, refl, sym, subst}
+use Rattle.std.proofs.Common.{◌≡◌, List, map, sym, subst}
 use Rattle.std.specs.Result.{IfOk}
 use Rattle.std.specs.Option.{option_map}
 use Rattle.bookkeeping.specs.Standings.{book_of}
@@ -6,7 +6,7 @@ use Rattle.certificate.specs.Certificates.{Sound}
 use Rattle.certificate.specs.ExactClaims.{Tightest}
 use Rattle.certificate.specs.Findings.{Verdict}
 use Rattle.following.specs.Promises.{Promised}
-use Rattle.service.specs.Services.{Talk, Ask, Told, Serves}
+use Rattle.service.specs.Services.{Turn, Serves}
 use Rattle.service.proofs.serve.serve.Goals as goal
 
 pub returns-clause-promised : goal.returns-clause-promised
@@ -20,19 +20,13 @@ returns-clause-promised g c =
     let f = c.unwrap-finding.result in
     let is_so = c.unwrap-finding.ensures in
     let verdict = subst (Verdict row m t vs ps k.low k.high) is_so c.accept.ensures.verdict in
-    let finds = verdict.1 in
-    let low : ◌≡◌ k.low f.low = sym finds.low_kept in
-    let high : ◌≡◌ k.high f.high = sym finds.high_kept in
-    let asked = g.O.Operator.asked in
-    let told = g.O.Operator.told in
-    let talk : List Ask → List Told → Talk = λ a b. record { asked = a; told = b } in
-    let now = talk (asked c.keep_book-book.new.operator) (told c.keep_book-book.new.operator) in
-    let from : talk (asked c.found.new.self) (told c.found.new.self) ≡ talk (asked c.args.operator.now) (told c.args.operator.now) =
-    ap (λ a. talk a (told c.found.new.self)) c.found.ensures.asked ∙ ap (talk (asked c.args.operator.now)) c.found.ensures.told in
+    let low : ◌≡◌ k.low f.low = sym verdict.1.low_kept in
+    let high : ◌≡◌ k.high f.high = sym verdict.1.high_kept in
     record {
       sound = subst (λ h. Sound m t vs ps (row f.low) (row h)) high (subst (λ l. Sound m t vs ps (row l) (row k.high)) low c.in_ok-claims.ensures.sound);
-      finds = record { low_kept = refl; high_kept = refl; top_found = finds.top_found; bottom_found = finds.bottom_found };
+      top = verdict.1.top_found;
+      bottom = verdict.1.bottom_found;
       tightest = subst (λ h. Tightest m t vs ps (row f.low) (row h)) high (subst (λ l. Tightest m t vs ps (row l) (row k.high)) low c.in_ok-claims.ensures.tightest);
       bound = subst (λ z. IfOk z (Promised row m t ps)) is_so c.accept.ensures.promise;
-      past = subst (λ z. Serves m ps z now (option_map book_of c.keep_book-book.result)) from c.keep_book-book.ensures;
+      past = subst (λ z. Serves m ps z (g.O.Operator.turns c.keep_book-book.new.operator) (option_map book_of c.keep_book-book.result)) c.found.ensures.turns c.keep_book-book.ensures.served;
     }

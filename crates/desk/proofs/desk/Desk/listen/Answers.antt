@@ -1,7 +1,7 @@
 use Rattle.std.proofs.Common.{[], ◌∷◌, ◌++◌, length, Err, sym, ap, ◌∙◌}
 use Rattle.desk.specs.Asking.{asked}
 use Rattle.desk.specs.Saying.{refusal_line}
-use Rattle.desk.specs.Talks.{tells_in, refuses_by}
+use Rattle.desk.specs.Talks.{shows_in, refuses_by}
 use Rattle.desk.specs.declared.talk.Turn.TheVariants.{Heard}
 use Rattle.desk.proofs.HistoryLaws.{entered}
 use Rattle.desk.proofs.TalkLaws.{goes_on, asks_heard}
@@ -30,18 +30,18 @@ invariant_of-self-in_default g c =
     let nothing = c.in_ok-heard.ensures.said ∙ ap (λ r. refuses_by (length (heard c.hear.new.self)) r ++ said old.terminal) asks in
     record { is_talk = goes_on (heard old.terminal) (said old.terminal) (heard c.hear.new.self) (said c.hear.new.self) old.talk.items c.and-self.result.items (turn, tt) old.is_talk c.in_ok-heard.ensures.heard nothing c.and-self.ensures }
 
-pub returns-in-Err-clause-asked : goal.returns-in-Err-clause-asked
-returns-in-Err-clause-asked g c =
+pub returns-in-Err-clause-turns : goal.returns-in-Err-clause-turns
+returns-in-Err-clause-turns g c =
     asks_heard c.args.self.now.talk.items c.and-self.result.items c.args.due c.in_ok-heard.heard (Err c.in-Err.rule) c.and-self.ensures
     (sym c.in-Err.is ∙ c.asked-asked.ensures.value ∙ ap (asked c.args.due) c.as_slice.ensures.value)
 
-pub returns-in-Err-clause-told : goal.returns-in-Err-clause-told
-returns-in-Err-clause-told g c = entered tells_in c.args.self.now.talk.items c.and-self.result.items (Heard c.args.due c.in_ok-heard.heard) c.and-self.ensures
+pub returns-in-Err-clause-shown : goal.returns-in-Err-clause-shown
+returns-in-Err-clause-shown g c = entered shows_in c.args.self.now.talk.items c.and-self.result.items (Heard c.args.due c.in_ok-heard.heard) c.and-self.ensures
 
-pub returns-in_default-clause-asked : goal.returns-in_default-clause-asked
-returns-in_default-clause-asked g c =
+pub returns-in_default-clause-turns : goal.returns-in_default-clause-turns
+returns-in_default-clause-turns g c =
     asks_heard c.args.self.now.talk.items c.and-self.result.items c.args.due c.in_ok-heard.heard c.asked-asked.result c.and-self.ensures
     (c.asked-asked.ensures.value ∙ ap (asked c.args.due) c.as_slice.ensures.value)
 
-pub returns-in_default-clause-told : goal.returns-in_default-clause-told
-returns-in_default-clause-told g c = entered tells_in c.args.self.now.talk.items c.and-self.result.items (Heard c.args.due c.in_ok-heard.heard) c.and-self.ensures
+pub returns-in_default-clause-shown : goal.returns-in_default-clause-shown
+returns-in_default-clause-shown g c = entered shows_in c.args.self.now.talk.items c.and-self.result.items (Heard c.args.due c.in_ok-heard.heard) c.and-self.ensures

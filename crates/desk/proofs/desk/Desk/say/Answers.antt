@@ -1,6 +1,6 @@
 use Rattle.std.proofs.Common.{◌∷◌, ap, ◌∙◌}
 use Rattle.desk.specs.declared.talk.Turn.TheVariants.{Told}
-use Rattle.desk.specs.Talks.{asks_in, tells_in}
+use Rattle.desk.specs.Talks.{turns_in, shows_in}
 use Rattle.desk.proofs.HistoryLaws.{entered}
 use Rattle.desk.proofs.TalkLaws.{goes_on}
 use Rattle.desk.proofs.desk.Desk.say.Goals as goal
@@ -13,8 +13,8 @@ invariant_of-self g c =
     let line = c.say.ensures.said ∙ ap (λ l. l ∷ said old.terminal) c.line.ensures in
     record { is_talk = goes_on (heard old.terminal) (said old.terminal) (heard c.say.new.self) (said c.say.new.self) old.talk.items c.and-self.result.items (Told c.args.told, tt) old.is_talk c.say.ensures.heard line c.and-self.ensures }
 
-pub returns-clause-asked : goal.returns-clause-asked
-returns-clause-asked g c = entered asks_in c.args.self.now.talk.items c.and-self.result.items (Told c.args.told) c.and-self.ensures
+pub returns-clause-turns : goal.returns-clause-turns
+returns-clause-turns g c = entered turns_in c.args.self.now.talk.items c.and-self.result.items (Told c.args.told) c.and-self.ensures
 
-pub returns-clause-told : goal.returns-clause-told
-returns-clause-told g c = entered tells_in c.args.self.now.talk.items c.and-self.result.items (Told c.args.told) c.and-self.ensures
+pub returns-clause-shown : goal.returns-clause-shown
+returns-clause-shown g c = entered shows_in c.args.self.now.talk.items c.and-self.result.items (Told c.args.told) c.and-self.ensures
