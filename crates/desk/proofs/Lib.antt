@@ -2,4 +2,5 @@ mod AskLaws
 mod HistoryLaws
 mod OpeningLaws
 mod RequestLaws
+mod StreamLaws
 mod TalkLaws

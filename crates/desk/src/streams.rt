@@ -1,6 +1,7 @@
-ghost use Rattle.std.specs.Prelude.{◌≡◌, ◌+◌, ◌^◌, ◌<◌, length, IfSome};
+ghost use Rattle.std.specs.Prelude.{◌≡◌, ◌+◌, ◌^◌, ◌<◌, [], ◌∷◌, length, IfSome};
+ghost use Rattle.std.specs.Io.KnownBytes.{Consumes};
 ghost use Rattle.desk.specs.Histories.{newest};
-ghost use Rattle.desk.specs.Streams.{kept, heard_line, said_line};
+ghost use Rattle.desk.specs.Streams.{kept, ReadsLine, heard_line, said_line};
 
 use crate::terminal::{HEARD_ROOM, Heard, Terminal};
 use http_server::Log;
@@ -18,17 +19,20 @@ fn keep(line: &mut Heard, byte: u8)
 }
 
 // The next byte; none at the end or where the stream fails.
-fn next_byte<R: Read>(reader: &mut R) -> Option<u8> {
+fn next_byte<R: Read>(reader: &mut R) -> Option<u8>
+    ensures { IfSome result (λ b. Consumes (R.remaining reader.old) (R.remaining reader.new) (b ∷ [])) }
+{
     let mut byte = [0; 1];
-    match reader.read(&mut byte) {
-        Ok(1) => Some(byte[0]),
-        _ => None,
+    match reader.read_exact(&mut byte) {
+        Ok(()) => Some(byte[0]),
+        Err(_) => None,
     }
 }
 
-/// The next line of a stream, with its line end; none at the end or where the stream fails. Of a line that is too long only the
-/// beginning is kept, and its line end.
-pub fn read_line<R: Read>(reader: &mut R) -> Option<Heard> {
+// What is kept of the next line of a stream, with its line end; nothing at the end or where the stream fails.
+fn read_line<R: Read>(reader: &mut R) -> Heard
+    ensures { ReadsLine (R.remaining reader.old) result.items }
+{
     let mut line = Heard::new();
     for _ in 0..u64::MAX {
         let Some(byte) = next_byte(reader) else {
@@ -39,7 +43,7 @@ pub fn read_line<R: Read>(reader: &mut R) -> Option<Heard> {
             break;
         }
     }
-    if line.is_empty() { None } else { Some(line) }
+    line
 }
 
 // Writes a text at once; whether the stream took it.
@@ -64,7 +68,10 @@ pub struct Streams<R, W> {
 
 impl<R: Read, W: Write> Streams<R, W> {
     /// A terminal of these streams.
-    pub fn new(reader: R, writer: W) -> Streams<R, W> {
+    pub fn new(reader: R, writer: W) -> Streams<R, W>
+        ensures heard { result.heard.items ≡ [] }
+        ensures said { result.said.items ≡ [] }
+    {
         Streams {
             reader,
             writer,
@@ -99,10 +106,11 @@ impl<R: Read, W: Write> Terminal for Streams<R, W> {
             self.ended = true;
             return None;
         };
-        let Some(line) = read_line(&mut self.reader) else {
+        let line = read_line(&mut self.reader);
+        if line.is_empty() {
             self.ended = true;
             return None;
-        };
+        }
         self.lines = lines;
         self.heard = self.heard.and(&line, &());
         Some(line)

@@ -1,4 +1,4 @@
-use Rattle.std.proofs.Common.{◌≡◌, List, ℕ, ◌∷◌, ap, ◌∙◌}
+use Rattle.std.proofs.Common.{List, ℕ, ◌∷◌, ap, ◌∙◌}
 use Rattle.desk.specs.declared.talk.Turn.TheVariants.{Shown}
 use Rattle.desk.specs.Talks.{turns_in, shows_in}
 use Rattle.desk.proofs.HistoryLaws.{entered}
