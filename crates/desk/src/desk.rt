@@ -38,7 +38,8 @@ impl<L: Terminal> Desk<L> {
         }
     }
 
-    // What the next line asks, if that is what is due; else the line is refused. None where nothing more is heard.
+    // What the next line asks, if that is what is due; else the line is refused. None where nothing
+    // more is heard.
     fn listen(&mut self, due: Due) -> Option<Result<Ask, Rule>>
         ensures turns { Hears result (newest turns_in self.old.talk.items)
             (newest turns_in self.new.talk.items) }
@@ -60,7 +61,8 @@ impl<L: Terminal> Desk<L> {
         Some(asked)
     }
 
-    // What is due, as soon as a line asks it; each line before that is refused. None where nothing more is heard.
+    // What is due, as soon as a line asks it; each line before that is refused. None where nothing
+    // more is heard.
     fn ask(&mut self, due: Due) -> Option<Ask>
         ensures turns { Asks result (newest turns_in self.old.talk.items)
             (newest turns_in self.new.talk.items) }

@@ -1,4 +1,5 @@
-//! The desk at which a plan is followed: lines ask for the next step of a book that follows a plan, and lines answer.
+//! The desk at which a plan is followed: lines ask for the next step of a book that follows a plan,
+//! and lines answer.
 #![tactic(auto)]
 
 pub mod asking;

@@ -51,7 +51,8 @@ fn follow_with<P: Plant, T: Tariff, L: Terminal + Drop>(
     );
     match served {
         Ok(_) => Ok(desk),
-        // The sweeps are few and the tables long enough: a value beyond reach is all that is refused here.
+        // The sweeps are few and the tables long enough: a value beyond reach is all that is
+        // refused here.
         Err(_) => Err(Unanswered::Refused(Refusal::BeyondReach(sweeps.line))),
     }
 }
@@ -123,8 +124,9 @@ fn follow_by_kind<L: Terminal + Drop>(
     }
 }
 
-/// Plans as a request asks, and follows the plan at a terminal until nothing more is heard there. Refused as the request is by
-/// the reply to it, with nothing heard or said. Want of memory is answered to requests only.
+/// Plans as a request asks, and follows the plan at a terminal until nothing more is heard there.
+/// Refused as the request is by the reply to it, with nothing heard or said. Want of memory is
+/// answered to requests only.
 pub fn follow<L: Terminal + Drop>(
     heap: Global,
     text: &[u8],

@@ -29,7 +29,8 @@ fn next_byte<R: Read>(reader: &mut R) -> Option<u8>
     }
 }
 
-// What is kept of the next line of a stream, with its line end; nothing at the end or where the stream fails.
+// What is kept of the next line of a stream, with its line end; nothing at the end or where the
+// stream fails.
 fn read_line<R: Read>(reader: &mut R) -> Heard
     ensures { ReadsLine (R.remaining reader.old) result.items }
 {

@@ -7,7 +7,8 @@ use plantext::line::LineText;
 /// Room for a line that is heard: one byte more than the longest line with its line end.
 pub const HEARD_ROOM: usize = 202;
 
-/// A line that was heard, with its line end. Of a longer line this holds the beginning, and the line end if it has one.
+/// A line that was heard, with its line end. Of a longer line this holds the beginning, and the
+/// line end if it has one.
 pub type Heard = ArrayVec<u8, HEARD_ROOM>;
 
 /// Where lines are heard and said.

@@ -6,6 +6,7 @@ use Rattle.interface.specs.Tariffs.{Scale}
 use Rattle.interface.specs.declared.claims.Claims.{Claims}
 use Rattle.certificate.specs.Certificates.{Sound, Top, Bottom}
 use Rattle.certificate.specs.ExactClaims.{Tightest}
+use Rattle.certificate.specs.Findings.{Accepts}
 use Rattle.planner.specs.Answers.{Answer, Tables}
 use Rattle.planner.specs.declared.refusal.Refusal.{Refusal}
 use Rattle.following.specs.Promises.{Promised}
@@ -22,6 +23,7 @@ book_in s = option_map book_of s.book
 -- from one moment to another, is the whole past of the book, and its log.
 pub record AllPromised {A : Type 0} (row : A → Row) (m : Model) (t : Scale) (b : Tables A) (from to : List Turn) (s : Served A) : Type 0 where
   pub sound : Sound m t (map row b.values) b.policy (row s.finding.low) (row s.finding.high)
+  pub accepted : Accepts row m t (map row b.values) b.policy s.finding.low s.finding.high
   pub top : Top m t (map row b.values) (row s.finding.top)
   pub bottom : Bottom m t (map row b.values) (row s.finding.bottom)
   pub tightest : Tightest m t (map row b.values) b.policy (row s.finding.low) (row s.finding.high)

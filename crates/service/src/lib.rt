@@ -1,4 +1,4 @@
-//! The service of a planned chain: its plan, checked, and a book that follows it as an operator asks.
+//! The service of a plant: its plan, checked, and a book that follows it as an operator asks.
 #![tactic(auto)]
 
 pub mod operator;

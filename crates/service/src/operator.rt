@@ -8,7 +8,8 @@ use bookkeeping::standing::{Answer, Standing};
 use certificate::finding::Finding;
 use interface::tariff::Tariff;
 
-/// Who drives a book: is shown what was found of the plan, asks for each call, and is told what came of it.
+/// Who drives a book: is shown what was found of the plan, asks for each call, and is told what
+/// came of it.
 pub trait Operator {
     /// What was shown, asked and told so far, the newest first.
     ghost turns: { Self → List Turn };
@@ -16,7 +17,8 @@ pub trait Operator {
     /// The last finding that was shown has these rows: low, high, top and bottom.
     ghost was_shown: { Self → List Row → Type 0 };
 
-    /// An upper limit of how much it still asks. No operator asks for ever, though it may go on for years.
+    /// An upper limit of how much it still asks. No operator asks for ever, though it may go on for
+    /// years.
     ghost left: { Self → ℕ };
 
     /// It has nothing more to ask.

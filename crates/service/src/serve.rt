@@ -1,6 +1,7 @@
-ghost use Rattle.std.specs.Prelude.{◌≡◌, ◌<◌, ℕ, List, IfNone, IfOk, IfSome, OnErr};
+ghost use Rattle.std.specs.Prelude.{◌≡◌, ◌<◌, ◌↔◌, ℕ, List, IfNone, IfOk, IfSome, OnErr};
 ghost use Rattle.std.specs.Option.{option_map};
 ghost use Rattle.bookkeeping.specs.Standings.{book_of};
+ghost use Rattle.planner.specs.RefusedAs.{IsRefused, RefusedAs};
 ghost use Rattle.service.specs.Planning.{AllPromised, PlannedAs};
 ghost use Rattle.service.specs.Services.{AsksCall, InService, Keeps, Serves, Turn, rows_of};
 
@@ -105,8 +106,9 @@ fn keep_book<P: Plant, O: Operator>(plant: &P, policy: &[u16], operator: &mut O)
     Some(attend(plant, policy, made, operator))
 }
 
-/// Plans, has the plan checked, shows the operator what was found, makes a book where it is asked for, and follows the
-/// plan's policy for as long as the operator asks for the next call. Refused as the planner refuses, before anything is asked.
+/// Plans, has the plan checked, shows the operator what was found, makes a book where it is asked
+/// for, and follows the plan's policy for as long as the operator asks for the next call. Refused
+/// as the planner refuses, before anything is asked.
 pub fn serve<P: Plant, T: Tariff, O: Operator>(
     plant: &P,
     tariff: &T,
@@ -121,13 +123,18 @@ pub fn serve<P: Plant, T: Tariff, O: Operator>(
         (record { values = values.old; working = working.old; policy = policy.old })
         (record { values = values.new; working = working.new; policy = policy.new })
         result }
+    // refused by a rule at a place exactly when that rule is broken there
+    ensures refused { (n p : ℕ) → IsRefused result n p
+        ↔ RefusedAs (P.model plant.now) (T.scale tariff.now) sweeps
+        (record { values = values.old; working = working.old; policy = policy.old }) n p }
     // without a plan nothing passes between the two
     ensures not_planned { OnErr result (O.turns operator.new ≡ O.turns operator.old) }
     // the finding was shown, and the service went on until the operator had nothing more to ask
     ensures shown { IfOk result (λ s. O.was_shown operator.new (rows_of T.Tariff.row s.finding)) }
     ensures done { IfOk result (λ _. O.is_done operator.new) }
     // the cost bound, the exactness of the claims, and the whole past of the book
-    ensures promised { IfOk result (AllPromised T.Tariff.row (P.model plant.now) (T.scale tariff.now)
+    ensures promised { IfOk result
+        (AllPromised T.Tariff.row (P.model plant.now) (T.scale tariff.now)
         (record { values = values.new; working = working.new; policy = policy.new })
         (O.turns operator.old) (O.turns operator.new)) }
 {

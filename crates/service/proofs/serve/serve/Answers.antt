@@ -4,7 +4,7 @@ use Rattle.std.specs.Option.{option_map}
 use Rattle.bookkeeping.specs.Standings.{book_of}
 use Rattle.certificate.specs.Certificates.{Sound}
 use Rattle.certificate.specs.ExactClaims.{Tightest}
-use Rattle.certificate.specs.Findings.{Verdict}
+use Rattle.certificate.specs.Findings.{Accepts, Verdict}
 use Rattle.following.specs.Promises.{Promised}
 use Rattle.service.specs.Services.{Turn, Serves}
 use Rattle.service.proofs.serve.serve.Goals as goal
@@ -24,6 +24,7 @@ returns-clause-promised g c =
     let high : ◌≡◌ k.high f.high = sym verdict.1.high_kept in
     record {
       sound = subst (λ h. Sound m t vs ps (row f.low) (row h)) high (subst (λ l. Sound m t vs ps (row l) (row k.high)) low c.in_ok-claims.ensures.sound);
+      accepted = subst (λ h. Accepts row m t vs ps f.low h) high (subst (λ l. Accepts row m t vs ps l k.high) low c.in_ok-claims.ensures.accepted);
       top = verdict.1.top_found;
       bottom = verdict.1.bottom_found;
       tightest = subst (λ h. Tightest m t vs ps (row f.low) (row h)) high (subst (λ l. Tightest m t vs ps (row l) (row k.high)) low c.in_ok-claims.ensures.tightest);
