@@ -576,6 +576,8 @@ pub struct Account {
     pub cents: u64,
 }
 
+// The fields are told by Debug alone.
+#[allow(dead_code)]
 #[derive(Debug)]
 pub enum BookRefusal {
     NoState(usize),
