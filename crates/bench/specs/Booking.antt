@@ -1,5 +1,5 @@
 -- What a book comes to as one number, window after window.
-use Rattle.std.specs.Prelude.{◌≡◌, ℕ, zero, suc, ◌/◌, ◌%◌, ◌^◌, ◌-◌, List, length, max, replicate, take}
+use Rattle.std.specs.Prelude.{ℕ, zero, suc, ◌/◌, ◌%◌, ◌^◌, ◌-◌, List, length, max, replicate, take}
 use Rattle.interface.specs.Limits.{most_states}
 use Rattle.interface.specs.Plants.{Model, outcomes_of}
 use Rattle.bookkeeping.specs.Books.{Account, Airing, fresh, aired}

@@ -1,10 +1,9 @@
 -- What one more question and its answer add to a service.
-use Rattle.std.proofs.Common.{◌≡◌, ℕ, zero, suc, ◌<◌, ◌≤◌, List, [], ◌∷◌, ◌++◌, length, Option, Some, None, refl, sym, ap, ◌∙◌, subst}
-use Rattle.std.specs.List.{All}
+use Rattle.std.proofs.Common.{◌≡◌, ℕ, suc, ◌<◌, ◌≤◌, List, [], ◌∷◌, ◌++◌, length, Option, Some, None, refl, sym, ap, ◌∙◌, subst}
 use Rattle.std.proofs.lemmas.List.{append-nil}
 use Rattle.std.proofs.lemmas.List.Elements.{All-nil, All-cons}
 use Rattle.interface.specs.Plants.{Model}
-use Rattle.bookkeeping.specs.declared.stage.Stage.TheVariants.{Open, Issued, OnAir}
+use Rattle.bookkeeping.specs.declared.stage.Stage.TheVariants.{Open}
 use Rattle.bookkeeping.specs.Books.{Account, Book, opened, issued, on_air, fresh, aired, account_of, held_by}
 use Rattle.bookkeeping.specs.Calls.{MakeRefused, no_state, MayIssue, ordered, Reported}
 use Rattle.bookkeeping.specs.Log.{Log, Call, Reply, goes_on, refused, Agrees, noted_seconds, noted_cents}

@@ -1,5 +1,5 @@
-use Rattle.std.proofs.Common.{ℕ, ◌+◌, sym, subst, add-one, suc}
-use Rattle.bookkeeping.specs.Books.{Account, fresh}
+use Rattle.std.proofs.Common.{sym, subst, add-one, suc}
+use Rattle.bookkeeping.specs.Books.{Account}
 use Rattle.bench.specs.Booking.{Books, begins, goes_on}
 use Rattle.bench.proofs.booking.book_windows.Goals as goal
 

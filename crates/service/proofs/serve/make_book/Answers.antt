@@ -1,4 +1,4 @@
-use Rattle.std.proofs.Common.{◌≡◌, ap, ◌∙◌, ◌∷◌, refl, None}
+use Rattle.std.proofs.Common.{ap, ◌∙◌, ◌∷◌, refl, None}
 use Rattle.bookkeeping.specs.Log.{Reply, refused}
 use Rattle.bookkeeping.specs.Refusals.{number_of, place_of}
 use Rattle.service.specs.Services.{tells}

@@ -1,4 +1,4 @@
-use Rattle.std.proofs.Common.{◌≡◌, List, map, sym, subst}
+use Rattle.std.proofs.Common.{◌≡◌, map, sym, subst}
 use Rattle.std.specs.Result.{IfOk}
 use Rattle.std.specs.Option.{option_map}
 use Rattle.bookkeeping.specs.Standings.{book_of}
@@ -6,7 +6,7 @@ use Rattle.certificate.specs.Certificates.{Sound}
 use Rattle.certificate.specs.ExactClaims.{Tightest}
 use Rattle.certificate.specs.Findings.{Accepts, Verdict}
 use Rattle.following.specs.Promises.{Promised}
-use Rattle.service.specs.Services.{Turn, Serves}
+use Rattle.service.specs.Services.{Serves}
 use Rattle.service.proofs.serve.serve.Goals as goal
 
 pub returns-clause-promised : goal.returns-clause-promised
