@@ -1,4 +1,4 @@
-ghost use Rattle.std.specs.Prelude.{◌≡◌, ◌+◌, ◌^◌, ◌<◌, [], ◌∷◌, length, IfSome};
+ghost use Rattle.std.specs.Prelude.{◌≡◌, ◌+◌, ◌^◌, ◌<◌, false, [], ◌∷◌, length, IfSome};
 ghost use Rattle.std.specs.Io.KnownBytes.{Consumes};
 ghost use Rattle.desk.specs.Histories.{newest};
 ghost use Rattle.desk.specs.Streams.{kept, ReadsLine, heard_line, said_line};
@@ -72,6 +72,7 @@ impl<R: Read, W: Write> Streams<R, W> {
     pub fn new(reader: R, writer: W) -> Streams<R, W>
         ensures heard { result.heard.items ≡ [] }
         ensures said { result.said.items ≡ [] }
+        ensures goes_on { result.ended ≡ false }
     {
         Streams {
             reader,
