@@ -93,7 +93,8 @@ pub extern "C" fn nensuya_ask_pair(text: &[u8], rounds: u32, answer: &mut u64) -
 // A plan of the chain in the text under the priced tariff.
 #[unsafe(no_mangle)]
 pub extern "C" fn nensuya_plan_priced(text: &[u8], rate: u32, sweeps: u32, answer: &mut u64) -> u32
-    ensures { (f : Result ℕ ℕ) × PlansPriced text.now rate sweeps f × Told f answer.old answer.new result }
+    ensures { (f : Result ℕ ℕ) ×
+        PlansPriced text.now rate sweeps f × Told f answer.old answer.new result }
 {
     tell(priced_plan(text, rate, sweeps), answer)
 }
@@ -101,7 +102,8 @@ pub extern "C" fn nensuya_plan_priced(text: &[u8], rate: u32, sweeps: u32, answe
 // A plan of the chain in the text under the air-first tariff.
 #[unsafe(no_mangle)]
 pub extern "C" fn nensuya_plan_air_first(text: &[u8], sweeps: u32, answer: &mut u64) -> u32
-    ensures { (f : Result ℕ ℕ) × PlansAirFirst text.now sweeps f × Told f answer.old answer.new result }
+    ensures { (f : Result ℕ ℕ) ×
+        PlansAirFirst text.now sweeps f × Told f answer.old answer.new result }
 {
     tell(air_first_plan(text, sweeps), answer)
 }
@@ -109,7 +111,8 @@ pub extern "C" fn nensuya_plan_air_first(text: &[u8], sweeps: u32, answer: &mut 
 // So many windows of a book of the chain in the text, in which everything is renewed each time.
 #[unsafe(no_mangle)]
 pub extern "C" fn nensuya_book_chain(text: &[u8], windows: u32, answer: &mut u64) -> u32
-    ensures { (f : Result ℕ ℕ) × BooksChain text.now windows f × Told f answer.old answer.new result }
+    ensures { (f : Result ℕ ℕ) ×
+        BooksChain text.now windows f × Told f answer.old answer.new result }
 {
     tell(chain_book(text, windows), answer)
 }

@@ -24,7 +24,8 @@ pub(crate) fn mix_flag(digest: u64, flag: bool) -> u64
 
 // An answer of two numbers, or its absence.
 fn mix_answer(digest: u64, answer: Option<(u64, u64)>) -> u64
-    ensures { MatchOption answer (result ≡ the_mix digest absent) (λ two. result ≡ the_mix (the_mix digest two.0) two.1) }
+    ensures { MatchOption answer (result ≡ the_mix digest absent)
+        (λ two. result ≡ the_mix (the_mix digest two.0) two.1) }
 {
     match answer {
         Some((first, second)) => mix(mix(digest, first), second),

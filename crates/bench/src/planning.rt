@@ -31,12 +31,14 @@ fn mix_amount<T: Tariff>(tariff: &T, before: u64, amount: T::Amount) -> u64
 }
 
 fn mix_values<T: Tariff>(tariff: &T, before: u64, values: &[T::Amount]) -> u64
-    ensures { result ≡ fold (with_row (T.scale tariff.now).places) before (map T.Tariff.row values.now) }
+    ensures { result ≡
+        fold (with_row (T.scale tariff.now).places) before (map T.Tariff.row values.now) }
 {
     values.iter().fold(
         before,
         |digest, value| -> u64
-            ensures { result ≡ with_row (T.scale tariff.entry.now).places digest (T.Tariff.row value.now) }
+            ensures { result ≡
+                with_row (T.scale tariff.entry.now).places digest (T.Tariff.row value.now) }
         { mix_amount(tariff, digest, *value) },
     )
 }
@@ -74,7 +76,10 @@ fn plan_into<P: Plant, T: Tariff>(
     working: &mut [T::Amount],
     policy: &mut [u16],
 ) -> Result<u64, Refusal>
-    ensures { Plans T.Tariff.row (P.model plant.now) (T.scale tariff.now) sweeps (record { values = values.old; working = working.old; policy = policy.old }) (record { values = values.new; working = working.new; policy = policy.new }) result }
+    ensures { Plans T.Tariff.row (P.model plant.now) (T.scale tariff.now) sweeps
+        (record { values = values.old; working = working.old; policy = policy.old })
+        (record { values = values.new; working = working.new; policy = policy.new })
+        result }
 {
     let claims = plan(plant, tariff, sweeps, values, working, policy)?;
     Ok(tell_plan(tariff, claims, values, policy))

@@ -94,7 +94,8 @@ impl<L: Terminal> Desk<L> {
 
     // Says the lines of a finding.
     fn show(&mut self, lines: FindingLines)
-        ensures turns { newest turns_in self.new.talk.items ≡ shows ∷ newest turns_in self.old.talk.items }
+        ensures turns { newest turns_in self.new.talk.items ≡
+            shows ∷ newest turns_in self.old.talk.items }
         ensures shown { newest shows_in self.new.talk.items
             ≡ lines_of lines ++ newest shows_in self.old.talk.items }
         ensures heard { L.heard self.new.terminal ≡ L.heard self.old.terminal }

@@ -84,7 +84,8 @@ impl Shown {
     // The numbers of the account, with a comma between each two.
     fn push_account(self, line: &mut LineText)
         requires { length line.old.bytes.items + 73 ≤ line_room }
-        ensures text { line.new.bytes.items ≡ line.old.bytes.items ++ account_text (shown_of self).account }
+        ensures text { line.new.bytes.items ≡
+            line.old.bytes.items ++ account_text (shown_of self).account }
         ensures len { length line.new.bytes.items ≤ length line.old.bytes.items + 73 }
     {
         line.push_number(self.state);
@@ -99,7 +100,8 @@ impl Shown {
     // The portfolio with a comma before it, if there is one.
     fn push_held(self, line: &mut LineText)
         requires { length line.old.bytes.items + 6 ≤ line_room }
-        ensures text { line.new.bytes.items ≡ line.old.bytes.items ++ held_text (shown_of self).held }
+        ensures text { line.new.bytes.items ≡
+            line.old.bytes.items ++ held_text (shown_of self).held }
         ensures len { length line.new.bytes.items ≤ length line.old.bytes.items + 6 }
     {
         if let Some(portfolio) = self.portfolio {

@@ -20,7 +20,8 @@ fn keep(line: &mut Heard, byte: u8)
 
 // The next byte; none at the end or where the stream fails.
 fn next_byte<R: Read>(reader: &mut R) -> Option<u8>
-    ensures { IfSome result (λ b. Consumes (R.remaining reader.old) (R.remaining reader.new) (b ∷ [])) }
+    ensures { IfSome result (λ b.
+        Consumes (R.remaining reader.old) (R.remaining reader.new) (b ∷ [])) }
 {
     let mut byte = [0; 1];
     match reader.read_exact(&mut byte) {
