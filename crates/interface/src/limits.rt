@@ -34,13 +34,43 @@ pub const MOST_CLAIM: u64 = 100_000_000_000_000_000;
 /// The most windows that a book takes.
 pub const MOST_WINDOWS: u32 = 1_000_000;
 
-// The constants above are the numbers that the laws of plants and tariffs name. Nothing is done here, since a constant has
-// no clauses of its own: the function stands for its clauses.
-pub fn all()
+/// The limits of a plant's counts, of a bill and of the places of an amount.
+#[derive(Clone, Copy)]
+pub struct Limits {
+    /// The most states of a plant.
+    pub states: usize,
+    /// The most portfolios of a plant.
+    pub portfolios: usize,
+    /// The most outcomes of a pair.
+    pub outcomes: usize,
+    /// The most dark seconds of a bill.
+    pub seconds: u32,
+    /// The most cents of a bill.
+    pub cents: u32,
+    /// The most places of an amount.
+    pub places: usize,
+}
+
+/// The limits in one value. The clauses speak of every constant above: each is the number that the
+/// laws of plants and tariffs name.
+pub fn all() -> Limits
+    ensures counts { (result.states ≡ most_states) × (result.portfolios ≡ most_portfolios)
+        × (result.outcomes ≡ most_outcomes) }
+    ensures bills { (result.seconds ≡ most_seconds) × (result.cents ≡ most_cents) }
+    ensures places { result.places ≡ most_places }
     ensures plant { (MOST_STATES ≡ most_states) × (MOST_PORTFOLIOS ≡ most_portfolios) × (MOST_OUTCOMES ≡ most_outcomes) × (WHOLE ≡ whole) }
     ensures bill { (MOST_SECONDS ≡ most_seconds) × (MOST_CENTS ≡ most_cents) }
     ensures described { (MOST_CHARGE ≡ most_charge) × (MOST_THRESHOLD ≡ most_threshold) }
     ensures amount { (MOST_PLACES ≡ most_places) × (MOST_REACH ≡ most_reach) × (MOST_FACTOR ≡ most_factor) }
     ensures certificate { (MOST_VALUE ≡ most_value) × (MOST_CLAIM ≡ most_claim) }
     ensures book { MOST_WINDOWS ≡ most_windows }
-{}
+{
+    Limits {
+        states: MOST_STATES,
+        portfolios: MOST_PORTFOLIOS,
+        outcomes: MOST_OUTCOMES,
+        seconds: MOST_SECONDS,
+        cents: MOST_CENTS,
+        places: MOST_PLACES,
+    }
+}

@@ -3,10 +3,13 @@ ghost use Rattle.std.specs.List.{slice_get};
 ghost use Rattle.std.specs.Option.{option_map};
 ghost use Rattle.interface.specs.Plants.{bill_of, outcomes_of};
 ghost use Rattle.interface.specs.Tariffs.{Answers};
+ghost use Rattle.lookahead.specs.Best.{first_best, FirstBest, cheaper, where_feasible};
+ghost use Rattle.lookahead.specs.Choices.{pick};
 ghost use Rattle.lookahead.specs.Gains.{Within, look_ahead, gain};
 ghost use Rattle.lookahead.specs.Steps.{look_ahead_steps, gain_steps, gain_of};
 
 use crate::ahead;
+use crate::best::{Aim, Choice};
 use interface::plant::{Bill, Plant};
 use interface::tariff::Tariff;
 
@@ -87,5 +90,59 @@ impl<'a, A: Copy> ValueTable<'a, A> {
             (map T.Tariff.row self.now.amounts.now) state portfolio) }
     {
         ahead::gain_of(plant, tariff, self, bill, state, portfolio)
+    }
+
+    /// The least look-ahead of a state, with its portfolio: the lowest-numbered among equals.
+    pub fn least_look_ahead<P: Plant, T: Tariff<Amount = A>>(
+        &self,
+        plant: &P,
+        tariff: &T,
+        state: usize,
+    ) -> Option<Choice<A>>
+        ensures steps { option_map (pick T.Tariff.row) result
+            ≡ first_best (cheaper (T.scale tariff.now)) (look_ahead_steps (P.model plant.now)
+            (T.scale tariff.now) (map T.Tariff.row self.now.amounts.now) state)
+            (P.model plant.now).portfolios }
+        ensures within { Within (P.model plant.now) (map T.Tariff.row self.now.amounts.now)
+            → option_map (pick T.Tariff.row) result
+            ≡ first_best (cheaper (T.scale tariff.now)) (where_feasible (P.model plant.now)
+            (look_ahead (P.model plant.now) (T.scale tariff.now)
+            (map T.Tariff.row self.now.amounts.now)) state) (P.model plant.now).portfolios }
+        ensures least { Within (P.model plant.now) (map T.Tariff.row self.now.amounts.now)
+            → FirstBest (cheaper (T.scale tariff.now)) (where_feasible (P.model plant.now)
+            (look_ahead (P.model plant.now) (T.scale tariff.now)
+            (map T.Tariff.row self.now.amounts.now)) state) (P.model plant.now).portfolios
+            (option_map (pick T.Tariff.row) result) }
+    {
+        Aim::Least.first_best(tariff, plant.portfolios(), |x| {
+            self.look_ahead(plant, tariff, state, x)
+        })
+    }
+
+    /// The least gain of a state, with its portfolio: the lowest-numbered among equals.
+    pub fn least_gain<P: Plant, T: Tariff<Amount = A>>(
+        &self,
+        plant: &P,
+        tariff: &T,
+        state: usize,
+    ) -> Option<Choice<A>>
+        ensures steps { option_map (pick T.Tariff.row) result
+            ≡ first_best (cheaper (T.scale tariff.now)) (gain_steps (P.model plant.now)
+            (T.scale tariff.now) (map T.Tariff.row self.now.amounts.now) state)
+            (P.model plant.now).portfolios }
+        ensures within { Within (P.model plant.now) (map T.Tariff.row self.now.amounts.now)
+            → option_map (pick T.Tariff.row) result
+            ≡ first_best (cheaper (T.scale tariff.now)) (where_feasible (P.model plant.now)
+            (gain (P.model plant.now) (T.scale tariff.now)
+            (map T.Tariff.row self.now.amounts.now)) state) (P.model plant.now).portfolios }
+        ensures least { Within (P.model plant.now) (map T.Tariff.row self.now.amounts.now)
+            → FirstBest (cheaper (T.scale tariff.now)) (where_feasible (P.model plant.now)
+            (gain (P.model plant.now) (T.scale tariff.now)
+            (map T.Tariff.row self.now.amounts.now)) state) (P.model plant.now).portfolios
+            (option_map (pick T.Tariff.row) result) }
+    {
+        Aim::Least.first_best(tariff, plant.portfolios(), |x| {
+            self.gain(plant, tariff, state, x)
+        })
     }
 }

@@ -6,7 +6,7 @@ ghost use Rattle.lookahead.specs.Best.{first_best, cheaper, where_feasible};
 ghost use Rattle.lookahead.specs.Choices.{pick, FirstLeast};
 ghost use Rattle.lookahead.specs.Gains.{Within, within_prop, look_ahead, gain};
 
-use crate::best::{Aim, Choice};
+use crate::best::Choice;
 use crate::table::ValueTable;
 use interface::plant::{Bill, Plant};
 use interface::tariff::Tariff;
@@ -71,11 +71,7 @@ impl<'p, 't, 'v, P: Plant, T: Tariff> ValuedPlant<'p, 't, 'v, P, T> {
             (gain (P.model self.now.plant.now) (T.scale self.now.tariff.now)
             (map T.Tariff.row self.now.table.amounts.now)) state result }
     {
-        Aim::Least.first_best(
-            self.tariff,
-            self.plant.portfolios(),
-            |x| self.gain(state, x),
-        )
+        self.table.least_gain(self.plant, self.tariff, state)
     }
 
     /// The least look-ahead of a state, with its portfolio: the lowest-numbered among equals.
@@ -91,10 +87,6 @@ impl<'p, 't, 'v, P: Plant, T: Tariff> ValuedPlant<'p, 't, 'v, P, T> {
             (look_ahead (P.model self.now.plant.now) (T.scale self.now.tariff.now)
             (map T.Tariff.row self.now.table.amounts.now)) state result }
     {
-        Aim::Least.first_best(
-            self.tariff,
-            self.plant.portfolios(),
-            |x| self.look_ahead(state, x),
-        )
+        self.table.least_look_ahead(self.plant, self.tariff, state)
     }
 }
