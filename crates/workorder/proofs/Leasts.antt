@@ -1,9 +1,18 @@
 -- The least of the numbers with a property. Assumes nothing.
-use Rattle.std.proofs.Common.{◌≡◌, ℕ, ◌+◌, ◌<◌, ◌≤◌, min, ◌⊎◌, List, [], ◌∷◌, fold, Some, None, Option, refl, ap, ◌∙◌, subst, inl, inr, arith}
+use Rattle.std.proofs.Common.{◌≡◌, ℕ, ◌+◌, ◌<◌, ◌≤◌, min, ◌⊎◌, List, [], ◌∷◌, fold, Some, None, Option, sym, refl, ap, ◌∙◌, subst, inl, inr, arith}
 use Rattle.std.proofs.lemmas.Bool.{cases_lt}
-use Rattle.std.specs.List.{cons_option, filter_map, reduce}
+use Rattle.std.proofs.lemmas.Iterator.{YieldsList}
+use Rattle.std.proofs.lemmas.Iterator.Adapters.{option_map_id}
+use Rattle.std.proofs.lemmas.Iterator.Consumers.{reduce_from_yields_List}
+use Rattle.std.specs.Fn.{Called}
+use Rattle.std.specs.Iterator.{ActsAsOnTwo, Drains, FoldTurn, ReducesItems}
+use Rattle.std.specs.Iterator.Runs.{AnyItem, IsReduceRun, Run, WholeRun}
+use Rattle.std.specs.List.{FoldsTo, cons_option, filter_map, reduce}
+use Rattle.std.specs.Option.{IsSomeAnd, MatchOption}
+use Rattle.std.specs.Prelude.{slice_index_or}
 use Rattle.workorder.specs.Orders.{LeastOf}
 use Rattle.workorder.specs.Steps.{lesser, sum}
+use denote.Param.Members.{Mut}
 use mathlib.Core.List.Memᴰ
 use mathlib.Core.List.{Memᴰ as In}
 use mathlib.Core.HLevel.{Π_prop, ×_prop, ⊥_prop}
@@ -45,7 +54,37 @@ module _ (P : ℕ → Type 0) where
   least_prop None = Π_prop (λ c. Π_prop (λ p. ⊥_prop))
   least_prop (Some c) = ×_prop ∥∥₁_prop (Π_prop (λ d. Π_prop (λ p. le_prop)))
 
--- ---- what `filter_map` and `min` pick
+-- ---- what `filter_map` and `reduce` pick
+
+first_above : (x : ℕ) (xs : List ℕ) → fold min x xs ≤ x
+first_above x [] = omega arith
+first_above x (z ∷ xs) = omega (arith, first_above (min x z) xs)
+
+-- where each call answers the lesser of its two numbers
+module _ {F : Type 0} (g : Mut F (ℕ × (ℕ × Unit {0})) ℕ) {f : F} (lessers : ActsAsOnTwo g f min) where
+  turns : (xs : List ℕ) (p q : F × ℕ) → p.0 ≡ f → FoldsTo {P = F × ℕ} (FoldTurn g) p xs q → FoldsTo (λ a x b. b ≡ min a x) p.1 xs q.1
+  turns [] p q e t = ap (λ w. w.1) t
+  turns (x ∷ xs) p q e t =
+      let m = lessers p.1 x t.0.1 t.0.0 (subst (λ w. Called g w (p.1, (x, tt)) t.0.1 t.0.0) e t.1) in
+      (t.0.1, m.1, turns xs t.0 q m.0 t.2)
+
+  module _ {S : Type 0} {steps : S → Option ℕ → S → Type 0} (s : S) (r : Option ℕ) where
+    pub reduced : {all : List ℕ} → ReducesItems steps g s f r → YieldsList steps (λ x. x) s all → r ≡ reduce min all
+    reduced d e = reduce_from_yields_List min s r (picks r d) e
+      where
+        picks : (r : Option ℕ) → ReducesItems steps g s f r → MatchOption r (Drains steps s []) (λ y. (x : ℕ) × (xs : List ℕ) × Drains steps s (x ∷ xs) × FoldsTo (λ a x b. b ≡ min a x) x xs y)
+        picks None d = d
+        picks (Some y) d = (d.0, d.1, d.3, turns d.1 (f, d.0) (d.2, y) refl d.4)
+
+    -- the answer is at most some item
+    pub reduced_below : WholeRun steps s (λ p. MatchOption r (p.len ≡ 0) (IsReduceRun p g f)) → WholeRun steps s (λ p. MatchOption r (p.len ≡ 0) (λ y. AnyItem p (λ x. y ≤ x)))
+    reduced_below w = (w.0, w.1, w.2, below w.0 r w.3)
+      where
+        below : (p : Run steps) (r : Option ℕ) → MatchOption r (p.len ≡ 0) (IsReduceRun p g f) → MatchOption r (p.len ≡ 0) (λ y. AnyItem p (λ x. y ≤ x))
+        below p None e = e
+        below p (Some y) e =
+            let first : p.at 0 ≡ Some e.1.0 = sym (option_map_id _) ∙ p.reads 0 e.1.0 e.0 ∙ ap (λ l. Some (slice_index_or l 0 e.1.0)) e.1.2 in
+            (0, e.0, subst (λ o. IsSomeAnd o (λ x. y ≤ x)) (sym first) (omega (arith, e.1.3 min lessers, first_above e.1.0 e.1.1)))
 
 min_first : (a b : ℕ) (ys : List ℕ) → fold min (min a b) ys ≡ min a (fold min b ys)
 min_first a b [] = refl

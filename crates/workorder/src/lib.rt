@@ -5,7 +5,7 @@
 // an arc, which starts at the door or at a part that is done by then, and costs what its arcs cost together.
 #![tactic(auto)]
 
-ghost use Rattle.std.specs.Prelude.{◌≡◌, ℕ, ◌*◌, ◌^◌, ◌<◌, [], ◌∷◌, set, replicate, Some, None, Decides, Option, slice_index_or, slice_set};
+ghost use Rattle.std.specs.Prelude.{◌≡◌, ℕ, ◌*◌, ◌^◌, ◌<◌, min, [], ◌∷◌, set, replicate, Some, None, Decides, Option, slice_index_or, slice_set};
 ghost use Rattle.workorder.specs.Figures.{Figures, arc as the_arc, circle as the_circle, closed as the_closed, row as the_row};
 ghost use Rattle.workorder.specs.Orders.{AtMost, Holds, Least, LeastOf, LeastTable, NoneDearer, max_parts, portfolios};
 ghost use Rattle.workorder.specs.Steps.{ArcFor, EndsWith, RightBelow, Usable, sum as the_sum, without as the_rest};
@@ -39,6 +39,13 @@ pub fn holds(portfolio: usize, part: usize) -> bool
     (1..=usize::BITS as usize).contains(&part) && (portfolio >> (part - 1)) % 2 == 1
 }
 
+// The lesser of two numbers.
+fn lesser(a: u64, b: u64) -> u64
+    ensures { result ≡ min a b }
+{
+    a.min(b)
+}
+
 // The arc's cents, where it leads to the part from the door or from a part of the portfolio done.
 fn usable_cents(arc: Arc, done: usize, part: usize) -> Option<u64>
     ensures cents { Usable done part arc result }
@@ -54,7 +61,7 @@ fn cheapest_arc(arcs: &[Arc], done: usize, part: usize) -> Option<u64>
 {
     arcs.iter()
         .filter_map(|arc| usable_cents(*arc, done, part))
-        .min()
+        .reduce(lesser)
 }
 
 // The portfolio without a part that it holds.
@@ -102,7 +109,7 @@ fn least_for(arcs: &[Arc], table: &[Option<u64>; PORTFOLIOS], portfolio: usize) 
 {
     (1..=MAX_PARTS)
         .filter_map(|part| ending_with(arcs, table, portfolio, part))
-        .min()
+        .reduce(lesser)
 }
 
 // The table to begin with: the portfolio of no parts costs nothing, and no other is known.
