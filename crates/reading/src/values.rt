@@ -1,6 +1,8 @@
 // The numbers in the value of a line.
-ghost use Rattle.std.specs.Prelude.{◌≡◌};
-ghost use Rattle.reading.specs.Values.{number_between, list_of, padded_list, ReadsBetween, ReadsList};
+ghost use Rattle.std.specs.Prelude.{◌≡◌, length, is_some};
+ghost use Rattle.std.specs.Option.{unwrap_or};
+ghost use Rattle.lines.specs.Fields.{further};
+ghost use Rattle.reading.specs.Values.{number_between, numbers_of, list_of, padded_list, ReadsBetween, ReadsList};
 
 use lines::cutting::Fields;
 use lines::numbers::number;
@@ -30,4 +32,30 @@ pub fn number_list<const N: usize>(value: &[u8], most: u32, count: usize) -> Opt
         *number = number_between(fields.next()?, 0, most)?;
     }
     fields.next().is_none().then_some(numbers)
+}
+
+// Reads the fields that are left as numbers into `out`, one for each place, and nothing where one is missing, is left
+// over, or is no number up to `most`. The places are written from the last one back, once all that follows is read.
+fn take_numbers(mut fields: Fields, most: u32, out: &mut [u32]) -> Option<()>
+    ensures test { is_some result ≡ is_some (numbers_of (further fields.entry.rest) most (length out.old)) }
+    ensures after { out.new ≡ unwrap_or (numbers_of (further fields.entry.rest) most (length out.old)) out.old }
+{
+    if out.is_empty() {
+        return fields.next().is_none().then_some(());
+    }
+    let field = fields.next()?;
+    let n = number_between(field, 0, most)?;
+    take_numbers(fields, most, &mut out[1..])?;
+    out[0] = n;
+    Some(())
+}
+
+/// Reads `value` as a list of exactly as many numbers as `out` has places, each at most `most` and with a comma between
+/// each two. Where it is no such list, `out` stays as it was.
+pub fn read_list(value: &[u8], most: u32, out: &mut [u32]) -> bool
+    ensures test { result ≡ is_some (list_of value.now most (length out.old)) }
+    ensures after { out.new ≡ unwrap_or (list_of value.now most (length out.old)) out.old }
+    ensures law { ReadsList value.now most (length out.old) (list_of value.now most (length out.old)) }
+{
+    take_numbers(Fields::new(value), most, out).is_some()
 }
