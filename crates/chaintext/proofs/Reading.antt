@@ -1,9 +1,6 @@
 -- What a line that is taken goes on to, and why one is refused.
-use Rattle.std.proofs.Common.{◌≡◌, ℕ, ◌+◌, List, Ok, Err, MatchResult, Result, sym, refl, ap, ◌∙◌, subst, arith}
+use Rattle.std.proofs.Common.{◌≡◌, ℕ, ◌+◌, List, Ok, Err, Result, sym, refl, ap, ◌∙◌, subst, arith}
 use Rattle.lines.specs.Line.{Said, pair, fault, line_at, rest_at, taken}
-use Rattle.std.proofs.lemmas.Result.{err_from_is_err_and}
-use Rattle.std.specs.Result.{IsErrAnd}
-use Rattle.reading.specs.declared.rules.ReadRefusal.{ReadRefusal}
 use Rattle.reading.specs.declared.rules.Rule.{Rule}
 use Rattle.chaintext.specs.declared.reader.ChainReader.{ChainReader}
 use Rattle.chaintext.specs.declared.reader.Stage.TheVariants as stage
@@ -17,21 +14,12 @@ took_err (Ok d) old new (Err x) e q h = absurd h
 took_err (Err y) old new (Ok u) e q h = absurd h
 took_err (Err y) old new (Err x) e q h = let same : x ≡ e = cc in ap Err (sym h.0 ∙ same)
 
--- a refusal by a rule at a line, made of the rule that a step answers
-pub refused_rule : {U : Type 0} (r : Result U Rule) (q : Result U ReadRefusal) (f : ReadRefusal) (place : ℕ) (P : Rule → ReadRefusal → Type 0) → q ≡ Err f → MatchResult r (λ x. q ≡ Ok x) (λ e. IsErrAnd q (P e)) → ((e : Rule) (g : ReadRefusal) → P e g → g ≡ record { rule = e; line = place }) → (r ≡ Err f.rule) × (f.line ≡ place)
-refused_rule (Ok x) q f place P is m only = let z : ◌≡◌ {A = ℕ} 0 1 = cc in absurd (omega arith)
-refused_rule (Err e) q f place P is m only =
-    let p = err_from_is_err_and q m in
-    let same : f ≡ p.0 = cc (is, p.1) in
-    let made : f ≡ record { rule = e; line = place } = same ∙ only e p.0 p.2 in
-    (ap (λ (g : ReadRefusal). Err g.rule) (sym made), ap (λ (g : ReadRefusal). g.line) made)
-
 -- a step that is not refused
-pub took_on : {U : Type 0} (s : Step) (old new : ChainReader) (r : Result U Rule) (q : Result U ReadRefusal) (x : U) (P : Rule → ReadRefusal → Type 0) → q ≡ Ok x → MatchResult r (λ x. q ≡ Ok x) (λ e. IsErrAnd q (P e)) → Took s old new r → s ≡ Ok new
-took_on (Ok d) old new (Ok u) q x P is m h = ap Ok (sym h)
-took_on (Ok d) old new (Err e) q x P is m h = absurd h
-took_on (Err y) old new (Ok u) q x P is m h = absurd h
-took_on (Err y) old new (Err e) q x P is m h = let p = err_from_is_err_and q m in let same : Ok x ≡ Err p.0 = sym is ∙ p.1 in let z : ◌≡◌ {A = ℕ} 0 1 = cc in absurd (omega arith)
+pub took_ok : {U : Type 0} (s : Step) (old new : ChainReader) (r : Result U Rule) → ((e : Rule) → r ≡ Err e → ⊥) → Took s old new r → s ≡ Ok new
+took_ok (Ok d) old new (Ok u) q h = ap Ok (sym h)
+took_ok (Ok d) old new (Err x) q h = absurd h
+took_ok (Err y) old new (Ok u) q h = absurd h
+took_ok (Err y) old new (Err x) q h = absurd (q x refl)
 
 pub one_taken : (d e : ChainReader) (l : Said) → line_step d l ≡ Ok e → taken l ≡ 1
 one_taken d e (pair k v) h = refl

@@ -100,9 +100,10 @@ fn read_lines(lines: &mut Lines) -> Result<Complete, ReadRefusal>
     loop {
         let read = lines.next_line();
         let line = read.place;
-        reader
-            .take_line(read.line)
-            .map_err(|rule| ReadRefusal { rule, line })?;
+        // By hand: of a closure for map_err the check would ask its very form.
+        if let Err(rule) = reader.take_line(read.line) {
+            return Err(ReadRefusal { rule, line });
+        }
         if reader.stage == Stage::Done {
             return Ok(Complete { reader, line });
         }

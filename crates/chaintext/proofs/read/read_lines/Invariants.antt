@@ -4,10 +4,10 @@ use Rattle.chaintext.specs.Reads.{fresh}
 use Rattle.chaintext.specs.Counted.{CountedEnding, CountedReads}
 use Rattle.chaintext.proofs.read.read_lines.Given as goal
 
-abbrev pub invariant-loop-reader : goal.invariant-loop-reader
-invariant-loop-reader l =
+abbrev pub invariant-loop-rule : goal.invariant-loop-rule
+invariant-loop-rule l =
     (l.reader.stage ≡ stage.Done → ⊥)
     × ((o : CountedEnding) → CountedReads l.reader l.lines.rest.now l.lines.place o → CountedReads fresh l.initial.lines.rest.now l.initial.lines.place o)
 
-abbrev pub decreases-loop-reader : goal.decreases-loop-reader
-decreases-loop-reader l = length l.lines.rest.now
+abbrev pub decreases-loop-rule : goal.decreases-loop-rule
+decreases-loop-rule l = length l.lines.rest.now
